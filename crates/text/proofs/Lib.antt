@@ -1,0 +1,5 @@
+pub mod Cutting
+pub mod Edging
+pub mod Joining
+mod Shaping
+pub mod Walking
