@@ -1,4 +1,4 @@
--- What a search for a byte tells the functions above it, all at once: i is the place that the definition gives, and a cut there is the
+-- What the look-up of a byte tells the functions above it, all at once: i is the place that the definition gives, and a cut there is the
 -- cut that the definition gives. It follows from the definitions and adds nothing to them. Assumes nothing.
 use mathlib.Core.Path.{_≡_}
 use mathlib.Core.Bool.{true, false}
