@@ -151,3 +151,23 @@ module _ (b : ℕ) (bs : List ℕ) (i : ℕ) (in′ : i < length bs) where
 
   pub occurrences-past : (getD bs i 0 ≡ b → ⊥) → occurrences b (drop i bs) ≡ occurrences b (drop (i + 1) bs)
   occurrences-past ne = at-drop-more (occurrences b) bs i 0 in′ ∙ ap (λ n. n + occurrences b (drop (i + 1) bs)) (cond-false _ 1 0 (ne-eqb _ b ne)) ∙ zero-add _
+
+-- no b stands behind the last one
+back-at : (b x : ℕ) (xs : List ℕ) (p : Halves) (t : Bool) (o : Option Halves) → ((q : Halves) → o ≡ Some q → holds b (q .1) ≡ false) → (o ≡ None → holds b xs ≡ false) → _≡_ {A = Option Halves} (elim o [ Some q ↦ Some (with-front x q) | None ↦ cond t (Some ([], xs)) None ]) (Some p) → holds b (p .1) ≡ false
+back-at b x xs p true None rest none e = let f : p .1 ≡ xs = cc in ap (holds b) f ∙ none refl
+back-at b x xs p false None rest none e = absurd (let z : _≡_ {A = ℕ} 0 1 = cc in omega arith)
+back-at b x xs p t (Some q) rest none e = let f : p .1 ≡ q .1 = cc in ap (holds b) f ∙ rest q refl
+
+cut-last-place : (b : ℕ) (bs : List ℕ) → cut-last b bs ≡ None → last-place b bs ≡ None
+cut-last-place b bs e = by-place (last-place b bs) (sym (cut-last-sides b bs) ∙ e)
+  where
+    by-place : (o : Option ℕ) → mapped (sides bs) o ≡ None → o ≡ None
+    by-place None f = refl
+    by-place (Some i) f = absurd (let z : _≡_ {A = ℕ} 0 1 = cc in omega arith)
+
+pub cut-last-none : (b : ℕ) (bs : List ℕ) → cut-last b bs ≡ None → holds b bs ≡ false
+cut-last-none b bs e = none-held-last b bs (cut-last-place b bs e)
+
+pub cut-last-back : (b : ℕ) (bs : List ℕ) (p : Halves) → cut-last b bs ≡ Some p → holds b (p .1) ≡ false
+cut-last-back b [] p e = absurd (let z : _≡_ {A = ℕ} 0 1 = cc in omega arith)
+cut-last-back b (x ∷ xs) p e = back-at b x xs p (eqb x b) (cut-last b xs) (cut-last-back b xs) (cut-last-none b xs) e
