@@ -109,17 +109,16 @@ module _ (xs : List (RefT (List ℕ))) where
   abbrev pub Whole-to : ℕ → Type 0
   Whole-to i = All (λ x. Whole separator (x .now)) (take i xs)
 
-  pub whole-all : (i : ℕ) → length xs ≤ i → Whole-to i → (Lone-empty (map now xs) → ⊥) → Decides true (Cuts-back (map now xs))
-  whole-all i past inv more =
-      (λ _. cuts-back _ (all-map (Whole separator) now xs (subst (All (λ x. Whole separator (x .now))) (take-all i xs past) inv)) more, λ _. refl)
+  pub whole-all : (i : ℕ) → length xs ≤ i → Whole-to i → All (Whole separator) (map now xs)
+  whole-all i past inv = all-map (Whole separator) now xs (subst (All (λ x. Whole separator (x .now))) (take-all i xs past) inv)
 
-  pub not-whole : (i : ℕ) (d : RefT (List ℕ)) → i < length xs → holds separator (getD xs i d .now) ≡ true → Decides false (Cuts-back (map now xs))
-  not-whole i d in′ e = (
-    λ f. absurd (false≢true f),
-    λ back.
-        let here : Whole separator (getD (map now xs) i (d .now)) = all-getD (Whole separator) (map now xs) i (d .now) (simp length-map (omega arith)) (cuts-back-whole _ back) in
-        absurd (both-ways _ (ap (holds separator) (sym (getD-map now xs i d (d .now) in′)) ∙ here) e),
-  )
+  pub not-whole : (i : ℕ) (d : RefT (List ℕ)) → i < length xs → holds separator (getD xs i d .now) ≡ true → All (Whole separator) (map now xs) → ⊥
+  not-whole i d in′ e all =
+      let here : Whole separator (getD (map now xs) i (d .now)) = all-getD (Whole separator) (map now xs) i (d .now) (simp length-map (omega arith)) all in
+      both-ways _ (ap (holds separator) (sym (getD-map now xs i d (d .now) in′)) ∙ here) e
+
+  pub whole-back : (r : Bool) → Decides r (All (Whole separator) (map now xs)) → (Lone-empty (map now xs) → ⊥) → Decides r (Cuts-back (map now xs))
+  whole-back r told more = (λ e. cuts-back _ (told .0 e) more, λ back. told .1 (cuts-back-whole _ back))
 
   pub lone-one : (d : RefT (List ℕ)) → length xs ≡ 1 → Decides (eqb (length (getD xs 0 d .now)) 0) (Lone-empty (map now xs))
   lone-one d one = lone-at xs one

@@ -5,6 +5,7 @@ use mathlib.Core.List.{List, [], _∷_, _++_}
 use Prim.Native.Nat.{ℕ, _+_, _≤_}
 use lib.Dec.{eqb}
 use lib.ListN.{length, drop}
+use Rattle.std.specs.shelf.Lists.{All}
 use Rattle.std.specs.declared.option.Option.the-variants.{Some, None}
 use Rattle.text.specs.Cuts.{holds, cut-first}
 use Rattle.text.specs.Edges.{Edge}
@@ -60,6 +61,10 @@ Whole b p = holds b p ≡ false
 -- one argument, and that is empty: its text would be the empty text, which has none
 abbrev pub Lone-empty : List (List ℕ) → Type 0
 Lone-empty list = list ≡ [] ∷ []
+
+-- what a joined text can carry
+abbrev pub Carried : List (List ℕ) → Type 0
+Carried list = All (Whole separator) list × (Lone-empty list → ⊥)
 
 -- Joining the arguments of a text gives the text back.
 abbrev pub Joins-back : List ℕ → Type 0

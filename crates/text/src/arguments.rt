@@ -6,8 +6,9 @@ ghost use Prim.Native.Nat.{_+_, _<_};
 ghost use lib.Dec.{leb};
 ghost use lib.ListN.{length};
 ghost use Rattle.std.specs.Orderings.{Decides};
+ghost use Rattle.std.specs.shelf.Lists.{All};
 ghost use Rattle.std.specs.declared.result.Result.the-variants.{Ok, Err};
-ghost use Rattle.text.specs.Arguments.{separator, longest-text, arguments, piece-at, place-behind, Cut-at-edges, Lone-empty, Joins-back, Cuts-back};
+ghost use Rattle.text.specs.Arguments.{separator, longest-text, arguments, piece-at, place-behind, Cut-at-edges, Whole, Lone-empty, Carried, Joins-back, Cuts-back};
 ghost use Rattle.text.specs.Cuts.{occurrences};
 use super::refusals::Refusal;
 use super::string::contains;
@@ -66,7 +67,8 @@ fn is_lone_empty(list: &[&[u8]]) -> bool
 }
 
 fn all_whole(list: &[&[u8]]) -> bool
-    ensures { λ r. ⌜ ((Lone-empty (map now (now (list .entry))) → ⊥) → Decides r (Cuts-back (map now (now (list .entry))))) ⌝ }
+    ensures whole { λ r. ⌜ Decides r (All (Whole separator) (map now (now (list .entry)))) ⌝ }
+    ensures back { λ r. ⌜ ((Lone-empty (map now (now (list .entry))) → ⊥) → Decides r (Cuts-back (map now (now (list .entry))))) ⌝ }
 {
     for argument in list {
         if contains(argument, SEPARATOR) {
@@ -76,9 +78,10 @@ fn all_whole(list: &[&[u8]]) -> bool
     true
 }
 
-// Whether cutting the joined text gives these arguments back.
+// Whether cutting the joined text gives these arguments back: none holds a separator, and they are not one empty argument.
 pub fn can_join(list: &[&[u8]]) -> bool
-    ensures { λ r. ⌜ Decides r (Cuts-back (map now (now (list .entry)))) ⌝ }
+    ensures carried { λ r. ⌜ Decides r (Carried (map now (now (list .entry)))) ⌝ }
+    ensures back { λ r. ⌜ Decides r (Cuts-back (map now (now (list .entry)))) ⌝ }
 {
     if is_lone_empty(list) {
         return false;
