@@ -1,4 +1,6 @@
 // What the comparison programs in Rust call.
+#![tactic(auto)]
+
 mod cutting;
 mod making;
 

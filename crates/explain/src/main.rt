@@ -1,4 +1,6 @@
 // Prints for a person what a text of CARGO_ENCODED_RUSTFLAGS is.
+#![tactic(auto)]
+
 mod lines;
 
 use lines::explained;

@@ -1,4 +1,6 @@
 // The flags of rustc.
+#![tactic(auto)]
+
 mod equality;
 mod flag;
 mod kinds;

@@ -1,4 +1,6 @@
 // House tables: options that a house names itself, as rows over a text.
+#![tactic(auto)]
+
 mod house;
 
 pub use house::HouseTable;

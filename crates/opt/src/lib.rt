@@ -1,4 +1,6 @@
 // The flags that the arguments of rustc's options make.
+#![tactic(auto)]
+
 mod links;
 mod lists;
 mod one;

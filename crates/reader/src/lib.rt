@@ -1,4 +1,6 @@
 // A text read flag by flag.
+#![tactic(auto)]
+
 mod cursor;
 mod reader;
 mod turns;

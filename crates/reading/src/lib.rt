@@ -1,4 +1,6 @@
 // The rules of reading: from a list of arguments to flags.
+#![tactic(auto)]
+
 mod counts;
 mod examples;
 

@@ -1,4 +1,6 @@
 // Answers a sample of options and arguments, to be held against the answers of the original.
+#![tactic(auto)]
+
 mod answers;
 
 use answers::answers;

@@ -1,4 +1,6 @@
 // Rows over a text of names: what they say, and the check of them.
+#![tactic(auto)]
+
 mod faults;
 mod rows;
 

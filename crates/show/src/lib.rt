@@ -1,4 +1,6 @@
 // A flag in one line for a person to read.
+#![tactic(auto)]
+
 mod fields;
 mod names;
 

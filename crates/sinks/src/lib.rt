@@ -1,4 +1,6 @@
 // Where arguments go: what a sink is, and whole arguments put into any sink.
+#![tactic(auto)]
+
 mod put;
 mod sink;
 mod token;

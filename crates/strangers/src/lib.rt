@@ -1,4 +1,6 @@
 // Sinks that others wrote, against the trait alone, and histories of calls on all sinks.
+#![tactic(auto)]
+
 mod lender;
 mod letters;
 mod nothing;

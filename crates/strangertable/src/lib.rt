@@ -1,4 +1,6 @@
 // What somebody outside writes against our traits alone.
+#![tactic(auto)]
+
 mod only;
 
 pub use only::OnlyZ;

@@ -1,4 +1,6 @@
 // Tables of options: what a table is, and rustc's.
+#![tactic(auto)]
+
 mod long;
 mod rustc;
 mod table;

@@ -1,4 +1,6 @@
 // Texts, their arguments, and what is said of both.
+#![tactic(auto)]
+
 mod arguments;
 mod refusals;
 mod shapes;

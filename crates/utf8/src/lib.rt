@@ -1,4 +1,6 @@
 // UTF-8 by a table of byte classes.
+#![tactic(auto)]
+
 ghost use Rattle.std.specs.Prelude.{◌≡◌, true, ◌&&◌, leb, [], if◌then◌else◌, Some, None, IsUtf8, Decides, nat_le};
 ghost use Rattle.std.specs.Option.{option_map};
 ghost use Rattle.utf8.specs.States.{classed, lists, ranges};

@@ -1,4 +1,6 @@
 // The words of rustc's options: how they are written, read, and read from comma lists.
+#![tactic(auto)]
+
 mod link;
 mod output;
 mod reading;

@@ -9,7 +9,7 @@ pub loop-b-init : goal.loop-b-init
 loop-b-init c = sym (append-nil (string_bytes c.args.out.now))
 
 pub loop-b-preserved : goal.loop-b-preserved
-loop-b-preserved c = joined_then (escaped_byte c.args.mark) c.args.bytes.now c.loop-b.b-index (string_bytes c.args.out.now) c.loop-b-test.true c.loop-b.invariant c.in-ok-push-byte.ensures
+loop-b-preserved c = joined_then (escaped_byte c.args.mark) c.args.bytes.now c.loop-b.b-index (string_bytes c.args.out.now) c.loop-b-test.true c.loop-b.invariant c.in_ok-push_byte.ensures
 
 pub returns : goal.returns
 returns c =

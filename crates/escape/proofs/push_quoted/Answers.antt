@@ -8,6 +8,6 @@ pub returns : goal.returns
 returns c =
     let inside = flat_map (escaped_byte 34) c.args.bytes.now in
     two_parts (string_bytes c.args.out.now) ((34 ∷ []) ++ inside) (34 ∷ [])
-    (two_parts (string_bytes c.args.out.now) (34 ∷ []) inside c.in-ok-push-str.ensures.bytes c.in-ok-push-marked.ensures refl)
-    c.in-ok-push-str-2.ensures.bytes
+    (two_parts (string_bytes c.args.out.now) (34 ∷ []) inside c.in_ok-push_str.ensures.bytes c.in_ok-push_marked.ensures refl)
+    c.in_ok-push_str-2.ensures.bytes
     refl

@@ -29,12 +29,12 @@ pub returns : goal.returns
 unfolding utf8
 returns c =
     let bs : List ℕ = c.args.bytes.now in
-    let e : c.is-whole.result ≡ utf8 bs =
-    c.is-whole.ensures
+    let e : c.is_whole.result ≡ utf8 bs =
+    c.is_whole.ensures
     ∙ sym (at_drop_all (utf8_from (Some (ranges c.loop-b.owed))) bs c.loop-b.b-index c.loop-b-test.false)
     ∙ c.loop-b.invariant in
     record {
       answer = e;
-      characters = Decides-at c.is-whole.result (utf8 bs) e (utf8_characters bs);
-      kit-text = Decides-at c.is-whole.result (utf8 bs) e (utf8_text bs);
+      characters = Decides-at c.is_whole.result (utf8 bs) e (utf8_characters bs);
+      kit_text = Decides-at c.is_whole.result (utf8 bs) e (utf8_text bs);
     }
