@@ -6,7 +6,7 @@ use Rattle.std.proofs.lemmas.Bool.{and_parts, both_ways, cases_lt, le-ltb, leb-t
 use Rattle.std.proofs.lemmas.Str.{encode_ascii, IsUtf8-append as text-append, IsUtf8-encode, IsUtf8-nil}
 use Rattle.std.proofs.lemmas.Bool.Decides.{nat_tests}
 use Rattle.utf8.specs.Utf8.{Range, within, table, fits, some_row_fits, Character, utf8}
-use Rattle.utf8.proofs.Laws.{ascii_character, character_length, IsUtf8-append, utf8_character, utf8_characters}
+use Rattle.utf8.proofs.Laws.{ascii_character, character_length, utf8_append, utf8_character, utf8_characters}
 
 -- The rows of the table by the number of bytes.
 
@@ -158,7 +158,7 @@ unfolding utf8
 utf8_encodes [] h = refl
 utf8_encodes (c ∷ cs) h =
     let p = and_parts (scalar c) (scalars cs) h in
-    IsUtf8-append (encode c) (encodes cs) (utf8_character (encode c) (encode_character c p.0)) (utf8_encodes cs p.1)
+    utf8_append (encode c) (encodes cs) (utf8_character (encode c) (encode_character c p.0)) (utf8_encodes cs p.1)
 
 pub utf8_text : (bs : List ℕ) → Decides (utf8 bs) (IsUtf8 bs)
 utf8_text bs = (

@@ -8,6 +8,6 @@ use Rattle.show.proofs.show.Goals as goal
 pub returns : goal.returns
 returns c =
     two_parts (string_bytes c.args.out.now) (kind_name (kind_of (meaning c.args.flag))) (fields (meaning c.args.flag))
-    (c.in-ok-push-str.ensures.bytes ∙ ap (λ l. string_bytes c.args.out.now ++ l) (c.name-of.ensures ∙ ap kind_name c.kind.ensures))
-    c.in-ok-push-fields.ensures
+    (c.in_ok-push_str.ensures.bytes ∙ ap (λ l. string_bytes c.args.out.now ++ l) (c.name_of.ensures ∙ ap kind_name c.kind.ensures))
+    c.in_ok-push_fields.ensures
     refl

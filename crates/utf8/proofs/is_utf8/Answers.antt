@@ -13,16 +13,16 @@ loop-b-preserved c =
     sym (walk_more (ranges c.loop-b.owed) c.args.bytes.now c.loop-b.b-index (Some (ranges c.in-Some.next)) c.loop-b-test.true c.in-Some.ensures)
     ∙ c.loop-b.invariant
 
-pub returns-in-default : goal.returns-in-default
+pub returns-in_default : goal.returns-in_default
 unfolding utf8
-returns-in-default c =
+returns-in_default c =
     let bs : List ℕ = c.args.bytes.now in
     let e : false ≡ utf8 bs =
-    sym (walk_more (ranges c.loop-b.owed) bs c.loop-b.b-index None c.loop-b-test.true c.in-default.ensures) ∙ c.loop-b.invariant in
+    sym (walk_more (ranges c.loop-b.owed) bs c.loop-b.b-index None c.loop-b-test.true c.in_default.ensures) ∙ c.loop-b.invariant in
     record {
       answer = e;
       characters = Decides-at false (utf8 bs) e (utf8_characters bs);
-      kit-text = Decides-at false (utf8 bs) e (utf8_text bs);
+      kit_text = Decides-at false (utf8 bs) e (utf8_text bs);
     }
 
 pub returns : goal.returns

@@ -4,14 +4,14 @@ use Rattle.explain.proofs.Walk.{begun, done, one_more}
 use Rattle.explain.proofs.lines.accepted.Goals as goal
 
 pub loop-i-init : goal.loop-i-init
-loop-i-init c = begun _ _ c.in-ok-out.ensures
+loop-i-init c = begun _ _ c.in_ok-out.ensures
 
 pub loop-i-preserved : goal.loop-i-preserved
 loop-i-preserved c =
     let in' : c.loop-i.i < length (arguments c.args.text.now) = omega (arith, c.count-i-end.ensures.answer) in
-    let told = c.argument-at-behind.ensures in
+    let told = c.argument_at-behind.ensures in
     one_more _ _ _ _ in' c.loop-i.invariant told.argument told.behind
-    (c.in-ok-push-str.ensures.bytes ∙ ap (λ l. string_bytes c.loop-i.out ++ l) (c.as-str.ensures.value ∙ c.in-ok-line.ensures))
+    (c.in_ok-push_str.ensures.bytes ∙ ap (λ l. string_bytes c.loop-i.out ++ l) (c.as_str.ensures.value ∙ c.in_ok-line.ensures))
 
 pub returns : goal.returns
 returns c =

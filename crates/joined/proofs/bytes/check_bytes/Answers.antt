@@ -4,14 +4,14 @@ use Rattle.joined.proofs.Checking.{some_left, one_more, stopped, all_in, all_tak
 use Rattle.joined.proofs.bytes.check_bytes.Goals as goal
 
 pub loop-b-preserved : goal.loop-b-preserved
-loop-b-preserved c = one_more _ _ _ _ c.loop-b-test.true c.loop-b.invariant c.in-ok-check-byte.ensures
+loop-b-preserved c = one_more _ _ _ _ c.loop-b-test.true c.loop-b.invariant c.in_ok-check_byte.ensures
 
-pub returns-in-err-check-byte : goal.returns-in-err-check-byte
-returns-in-err-check-byte c =
+pub returns-in_err-check_byte : goal.returns-in_err-check_byte
+returns-in_err-check_byte c =
     let p = err_from_is_err_and c.from-residual.result c.from-residual.ensures.1 in
     rw (p.1, p.2)
     record {
-      answer = stopped _ _ _ _ c.loop-b-test.true c.loop-b.invariant _ c.in-err-check-byte.ensures;
+      answer = stopped _ _ _ _ c.loop-b-test.true c.loop-b.invariant _ c.in_err-check_byte.ensures;
       taken = λ e. let z : ◌≡◌ {A = ℕ} 0 1 = cc in absurd (omega arith);
     }
 

@@ -6,8 +6,8 @@ use Rattle.reader.specs.Cursors.{args_behind}
 use Rattle.reader.proofs.Turning.{tells_by, letter_takes, letter_unknown}
 use Rattle.reader.proofs.turns.letter_turn.Goals as goal
 
-pub returns-in-None-bare-flag : goal.returns-in-None-bare-flag
-returns-in-None-bare-flag g c =
+pub returns-in-None-bare_flag : goal.returns-in-None-bare_flag
+returns-in-None-bare_flag g c =
     let o = g.T.Table.means c.args.table.now in
     let args = args_behind c.args.text.now c.args.at in
     λ w less. tells_by o _ w _ _ _ (letter_takes args (λ t. first_from o t args) (piece_at 31 c.args.text.now c.args.at) c.in-Some.code (o.short c.args.letter) (search rules) (search rules)) (c.takes_rest.ensures o w less)

@@ -22,10 +22,10 @@ returns-in-Cluster-Some g c =
     let at = c.args.cursor.at in
     let in' = c.in-Cluster-Some.ensures.within in
     in_state o text _ c.args.cursor Cluster c.in-Cluster-Some.is-0
-    (tells_by o text _ _ _ _ (letter_first o text at c.in-Cluster-Some.letter c.in-Cluster-Some.ensures.here (search rules)) (c.letter-turn.ensures _ (omega (arith, in'))))
+    (tells_by o text _ _ _ _ (letter_first o text at c.in-Cluster-Some.letter c.in-Cluster-Some.ensures.here (search rules)) (c.letter_turn.ensures _ (omega (arith, in'))))
 
 pub returns-in-List-default : goal.returns-in-List-default
 returns-in-List-default g c =
     let o = g.T.Table.means c.args.table.now in
     let text = c.args.text.now in
-    in_state o text _ c.args.cursor (InList c.in-List-default.code c.in-List-default.left) c.in-List-default.is-0 (c.list-turn.ensures o _ (search rules))
+    in_state o text _ c.args.cursor (InList c.in-List-default.code c.in-List-default.left) c.in-List-default.is-0 (c.list_turn.ensures o _ (search rules))

@@ -6,5 +6,5 @@ use Rattle.rows.proofs.rows.is_named.Goals as goal
 
 pub returns : goal.returns
 returns c =
-    same_from_decides _ _ (slice_eq-Decides Decides-eqb _ _ _ c.eq.ensures) (bytes_eq-Decides c.name-of.result.now c.args.name.now)
-    ∙ ap (λ n. bytes_eq n c.args.name.now) c.name-of.ensures
+    same_from_decides _ _ (slice_eq-Decides Decides-eqb _ _ _ c.eq.ensures) (bytes_eq-Decides c.name_of.result.now c.args.name.now)
+    ∙ ap (λ n. bytes_eq n c.args.name.now) c.name_of.ensures

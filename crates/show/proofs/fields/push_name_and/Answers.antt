@@ -5,4 +5,4 @@ use Rattle.show.specs.Shown.{text, text_or_dash}
 use Rattle.show.proofs.fields.push_name_and.Goals as goal
 
 pub returns : goal.returns
-returns c = two_parts (string_bytes c.args.out.now) (text c.args.name.now) (text_or_dash (option_map (λ x. x.now) c.args.other)) c.in-ok-push-text.ensures c.in-ok-push-text-or-dash.ensures refl
+returns c = two_parts (string_bytes c.args.out.now) (text c.args.name.now) (text_or_dash (option_map (λ x. x.now) c.args.other)) c.in_ok-push_text.ensures c.in_ok-push_text_or_dash.ensures refl

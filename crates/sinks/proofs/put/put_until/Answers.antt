@@ -14,16 +14,16 @@ loop-argument-preserved g c =
     let s = g.S.Sink in
     let r = s.rules (s.fixed c.args.sink.now) in
     let inv = c.loop-argument.invariant in
-    let told = c.in-ok-put-argument.ensures in
+    let told = c.in_ok-put_argument.ensures in
     let in' = c.loop-argument-test.true in
     (one_more r _ _ _ _ in' _ _ inv.0 told.holds, told.stays ∙ inv.1, inv.2 ∙ one_passed r _ _ _ _ in' _ _ (ap s.rules inv.1) inv.0 told.answer)
 
-pub returns-in-err-put-argument : goal.returns-in-err-put-argument
-returns-in-err-put-argument g c =
+pub returns-in_err-put_argument : goal.returns-in_err-put_argument
+returns-in_err-put_argument g c =
     let s = g.S.Sink in
     let r = s.rules (s.fixed c.args.sink.now) in
     let inv = c.loop-argument.invariant in
-    let told = c.in-err-put-argument.ensures in
+    let told = c.in_err-put_argument.ensures in
     let in' = c.loop-argument-test.true in
     let p = err_from_is_err_and c.from-residual.result c.from-residual.ensures.1 in
     rw (p.1, p.2)

@@ -8,8 +8,8 @@ returns-in-len1 c =
     let told = lone_told c.args.list.now _ (Decides-at _ _ c.is_empty.ensures (lone_one c.args.list.now _ (search rules))) in
     record { lone = told.0; lost = told.1 }
 
-pub returns-in-default : goal.returns-in-default
-returns-in-default c = let told = lone_told c.args.list.now _ (lone_many c.args.list.now (search rules)) in record { lone = told.0; lost = told.1 }
+pub returns-in_default : goal.returns-in_default
+returns-in_default c = let told = lone_told c.args.list.now _ (lone_many c.args.list.now (search rules)) in record { lone = told.0; lost = told.1 }
 
-pub returns-in-default·2 : goal.returns-in-default·2
-returns-in-default·2 c = let told = lone_told c.args.list.now _ (lone_many c.args.list.now (search rules)) in record { lone = told.0; lost = told.1 }
+pub returns-in_default·2 : goal.returns-in_default·2
+returns-in_default·2 c = let told = lone_told c.args.list.now _ (lone_many c.args.list.now (search rules)) in record { lone = told.0; lost = told.1 }

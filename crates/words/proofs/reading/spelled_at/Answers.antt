@@ -2,8 +2,8 @@ use Rattle.std.proofs.Common.{sym}
 use Rattle.words.proofs.Spelled.{read_here, read_other, read_none}
 use Rattle.words.proofs.reading.spelled_at.Goals as goal
 
-pub returns-in-default : goal.returns-in-default
-returns-in-default g c = let s = g.W.WordSet in read_none s.spelled s.words _ _ (sym c.in-default.ensures)
+pub returns-in_default : goal.returns-in_default
+returns-in_default g c = let s = g.W.WordSet in read_none s.spelled s.words _ _ (sym c.in_default.ensures)
 
 pub returns-then-same : goal.returns-then-same
 returns-then-same g c =

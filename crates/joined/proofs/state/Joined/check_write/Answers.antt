@@ -6,5 +6,5 @@ use Rattle.joined.proofs.state.Joined.check_write.Goals as goal
 
 pub returns : goal.returns
 returns c =
-    let told = c.check-bytes.ensures in
+    let told = c.check_bytes.ensures in
     record { answer = told.answer ∙ sym (ap (option_map refusal) (write_bar c.args.self.now c.requires c.args.bytes.now)); taken = told.taken }
