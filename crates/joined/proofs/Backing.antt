@@ -1,6 +1,6 @@
 -- Going back in a text, byte by byte. Assumes nothing.
 use Rattle.std.proofs.Common.{◌≡◌, ℕ, zero, suc, ◌+◌, ◌-◌, ◌<◌, ◌≤◌, Bool, true, false, cond, eqb, ◌⊎◌, List, [], ◌∷◌, ◌++◌, length, get_or, take, drop, set, sym, refl, ap, ◌∙◌, subst, inl, inr, ⊎_elim, add-one, arith}
-use Rattle.std.proofs.lemmas.List.{length-append, length-take, length-take_le, length-set, take_more, take_all, take-set-le}
+use Rattle.std.proofs.lemmas.List.{length-append, length-take, length-take-le, length-set, take_more, take_all, take-set-le}
 use Rattle.std.proofs.lemmas.Bool.{eq-eqb, ne_eqb, cond-true, cond-false, cases_lt}
 use Rattle.text.specs.Arguments.{separator, onto_first, pieces, arguments}
 use Rattle.text.specs.Cuts.{begins, occurrences}
@@ -62,7 +62,7 @@ module _ (bytes : List ℕ) (at : ℕ) (in' : at < length bytes) where
   -- the text without its last byte
   module _ (count : ℕ) (t : Text bytes (at + 1) count) where
     long : length (take (at + 1) bytes) ≡ at + 1
-    long = length-take_le (at + 1) bytes (omega arith)
+    long = length-take-le (at + 1) bytes (omega arith)
 
     pub count_pieces : count ≡ length (pieces separator (take (at + 1) bytes))
     count_pieces = t.counted ∙ ap length (args_some (take (at + 1) bytes) (omega (arith, long)))
@@ -80,7 +80,7 @@ module _ (bytes : List ℕ) (at : ℕ) (in' : at < length bytes) where
     none_left e = ap (λ n. length (arguments (take n bytes))) (sym e)
 
     some_left : 0 < at → length (arguments (take at bytes)) ≡ length (pieces separator (take at bytes))
-    some_left h = ap length (args_some (take at bytes) (omega (arith, length-take_le at bytes (omega arith))))
+    some_left h = ap length (args_some (take at bytes) (omega (arith, length-take-le at bytes (omega arith))))
 
     pub one_less : 0 < at → byte ≡ separator → count - 1 ≡ length (arguments (take at bytes))
     one_less h e = omega (arith, count_pieces, back_separator e, some_left h)
@@ -103,7 +103,7 @@ module _ (bytes : List ℕ) (end count n : ℕ) (in' : end ≤ length bytes) (t 
   end_some = ⊎_elim (λ (lt : 0 < end). lt) (λ (le : end ≤ 0). absurd (omega (arith, t.counted, nothing end (omega arith)))) (cases_lt 0 end)
 
   pub back_none : Back bytes end n end count
-  back_none = record { within = omega arith; enough = omega arith; counted = t.counted ∙ ap length (args_some (take end bytes) (omega (arith, length-take_le end bytes in', end_some))); same = refl }
+  back_none = record { within = omega arith; enough = omega arith; counted = t.counted ∙ ap length (args_some (take end bytes) (omega (arith, length-take-le end bytes in', end_some))); same = refl }
 
   module _ (at left : ℕ) (b : Back bytes end n at left) where
     pub back_more : 0 < at → n < left → (left' : ℕ) → left' ≡ length (pieces separator (take (at - 1) bytes)) → n ≤ left' → Back bytes end n (at - 1) left'
@@ -129,10 +129,10 @@ module _ (bytes : List ℕ) (end count n : ℕ) (in' : end ≤ length bytes) (t 
         not_empty x (p ∷ ps) e = let z : ◌≡◌ {A = ℕ} 0 1 = cc in omega arith
 
     end_long : length (take end bytes) ≡ end
-    end_long = length-take_le end bytes in'
+    end_long = length-take-le end bytes in'
 
     at_long : length (take at bytes) ≡ at
-    at_long = length-take_le at bytes (omega (arith, b.within))
+    at_long = length-take-le at bytes (omega (arith, b.within))
 
     whole_pieces : arguments (take end bytes) ≡ pieces separator (take end bytes)
     whole_pieces = args_some (take end bytes) (omega (arith, end_long, end_some))

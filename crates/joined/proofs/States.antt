@@ -1,7 +1,7 @@
 -- What a joined sink keeps, from one state to the next. Assumes nothing.
 use Rattle.std.proofs.Common.{◌≡◌, ℕ, ◌+◌, ◌-◌, ◌<◌, ◌≤◌, Bool, true, false, cond, eqb, ◌⊎◌, List, [], ◌∷◌, ◌++◌, length, get_or, take, drop, set, replicate, Some, None, Option, sym, refl, ap, ◌∙◌, subst, inl, inr, ⊎_elim, arith}
 use Rattle.std.specs.Option.{option_map, option_to_list}
-use Rattle.std.proofs.lemmas.List.{append-nil, length-append, length-set, length-take_le, take-set_le, take_more_set, drop-append-le, drop_all}
+use Rattle.std.proofs.lemmas.List.{append-nil, length-append, length-set, length-take-le, take-set-le, take_more_set, drop-append-le, drop_all}
 use Rattle.std.proofs.lemmas.Bool.{cases_Bool, cases_lt, both_ways, ne_eqb, or_parts}
 use Rattle.text.specs.Arguments.{separator, arguments, join}
 use Rattle.text.specs.Cuts.{holds, begins, occurrences}
@@ -47,7 +47,7 @@ module _ (s : Joined) where
   at b = record { list = arguments text; pending = cond b (Some tail) None }
 
   used_long : length (take s.used bytes) ≡ s.used
-  used_long = length-take_le s.used bytes s.within
+  used_long = length-take-le s.used bytes s.within
 
   pub content_is : content (held s) ≡ take s.used bytes
   content_is =
@@ -123,7 +123,7 @@ module _ (s : Joined) where
     push_zeros = one_zero_less bytes s.used space 0 b s.zeros
 
     same : take s.finished pushed ≡ text
-    same = take-set_le s.finished bytes s.used b s.order
+    same = take-set-le s.finished bytes s.used b s.order
 
     pub push_counted : s.count ≡ length (arguments (take s.finished pushed))
     push_counted = s.counted ∙ ap (λ l. length (arguments l)) (sym same)
@@ -162,7 +162,7 @@ module _ (s : Joined) where
     start_zeros = one_zero_less bytes s.finished space 0 31 (subst (λ n. ClearFrom n bytes) (s.shut shut') s.zeros)
 
     front : take s.finished started ≡ text
-    front = take-set_le s.finished bytes s.finished 31 (omega arith)
+    front = take-set-le s.finished bytes s.finished 31 (omega arith)
 
     pub start_counted : s.count ≡ length (arguments (take s.finished started))
     start_counted = s.counted ∙ ap (λ l. length (arguments l)) (sym front)
@@ -174,13 +174,13 @@ module _ (s : Joined) where
     all_started = take_more_set bytes s.finished 31 space
 
     no_tail : drop (s.finished + 1) (take (s.finished + 1) started) ≡ []
-    no_tail = drop_all (s.finished + 1) (take (s.finished + 1) started) (omega (arith, length-take_le (s.finished + 1) started start_within))
+    no_tail = drop_all (s.finished + 1) (take (s.finished + 1) started) (omega (arith, length-take-le (s.finished + 1) started start_within))
 
     pub start_whole : holds separator (drop (s.finished + 1) (take (s.finished + 1) started)) ≡ false
     start_whole = ap (holds separator) no_tail
 
     pub start_content : take (s.finished + 1) started ≡ join (arguments (take s.finished started) ++ drop (s.finished + 1) (take (s.finished + 1) started) ∷ [])
-    start_content = all_started ∙ sym (join_behind text [] (omega (arith, length-take_le s.finished bytes (omega arith)))) ∙ (λ i. join (arguments (sym front i) ++ sym no_tail i ∷ []))
+    start_content = all_started ∙ sym (join_behind text [] (omega (arith, length-take-le s.finished bytes (omega arith)))) ∙ (λ i. join (arguments (sym front i) ++ sym no_tail i ∷ []))
 
     pub start_holds : record { list = arguments (take s.finished started); pending = Some (drop (s.finished + 1) (take (s.finished + 1) started)) } ≡ begun None (held s)
     start_holds = λ i. record { list = arguments (front i); pending = Some (no_tail i) }

@@ -20,7 +20,7 @@ argument_end text xs ys end place args is = record {
   there = is.there ∙ sym (append_assoc is.front xs ys);
   within = is.within;
   place-within = is.place-within;
-  at-end = is.at-end;
+  at_end = is.at-end;
   later = is.later;
 }
 
@@ -55,7 +55,7 @@ module _ (text : Bytes) (at : ℕ) where
       there = take_on at (length piece) text ∙ ap (λ l. take at text ++ l) front.0;
       within = omega (arith, front.1, length-drop at text);
       place-within = place_bounds.1;
-      at-end = pieces-at_end text at;
+      at_end = pieces-at_end text at;
       later = pieces_later text at;
     }
 

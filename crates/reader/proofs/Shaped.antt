@@ -1,6 +1,6 @@
 -- An argument by its shape. Assumes nothing.
 use Rattle.std.proofs.Common.{◌≡◌, ℕ, ◌+◌, ◌-◌, ◌<◌, ◌≤◌, Bool, true, false, cond, eqb, List, [], ◌∷◌, ◌++◌, length, drop, Some, None, Option, sym, refl, ap, ◌∙◌, subst, ⊎_elim, arith}
-use Rattle.std.proofs.lemmas.Bool.{both_ways, cases_Bool, cond-true, cond-false, eqb_true, eq-eqb, ne_eqb}
+use Rattle.std.proofs.lemmas.Bool.{both_ways, cases_Bool, cond-true, cond-false, eqb-true, eq-eqb, ne_eqb}
 use Rattle.flags.specs.Meaning.{Bytes}
 use Rattle.text.specs.Arguments.{pieces, piece_at, place_behind}
 use Rattle.text.specs.Shapes.{Form, form_of, behind_one, behind_two, empty, single, double, long, short, plain}
@@ -47,8 +47,8 @@ module _ (o : Options) (text : Bytes) (at : ℕ) where
 two_dashes : (x y : ℕ) (ys body : Bytes) (s t : Bool) → eqb x 45 ≡ s → eqb y 45 ≡ t → long body ≡ cond s (cond t (behind_two ys) (short (y ∷ ys))) plain → x ∷ y ∷ ys ≡ 45 ∷ 45 ∷ body
 two_dashes x y [] body true true f g e = absurd (let z : ◌≡◌ {A = ℕ} 0 1 = cc in omega arith)
 two_dashes x y (z ∷ zs) body true true f g e =
-    let first : x ≡ 45 = eqb_true x 45 f in
-    let second : y ≡ 45 = eqb_true y 45 g in
+    let first : x ≡ 45 = eqb-true x 45 f in
+    let second : y ≡ 45 = eqb-true y 45 g in
     let rest : body ≡ z ∷ zs = cc in
     ap (λ n. n ∷ y ∷ z ∷ zs) first ∙ ap (λ n. 45 ∷ n ∷ z ∷ zs) second ∙ ap (λ l. 45 ∷ 45 ∷ l) (sym rest)
 two_dashes x y ys body true false f g e = absurd (let z : ◌≡◌ {A = ℕ} 0 1 = cc in omega arith)
@@ -73,7 +73,7 @@ ended_first o text at a is e = between_first o text at a double is e ∙ first_e
 -- an argument that does not begin with a dash
 pub plain_first : (o : Options) (text : Bytes) (at x : ℕ) → drop at text ≡ x ∷ drop (at + 1) text → (x ≡ 45 → ⊥) → first o (between (pieces 31 (drop at text))) ≡ first_from o free (args_behind text at)
 plain_first o text at x here no_dash = ⊎_elim
-    (λ t. between_first o text at [] empty (sym (no_piece text at x here (eqb_true x 31 t))) refl)
+    (λ t. between_first o text at [] empty (sym (no_piece text at x here (eqb-true x 31 t))) refl)
     (λ t. let a = x ∷ piece_at 31 text (at + 1) in between_first o text at a plain (sym (piece_on text at x here (λ e. both_ways _ t (eq-eqb x 31 e)))) (sym (cond-false _ _ _ (ne_eqb x 45 no_dash))))
     (cases_Bool (eqb x 31))
 

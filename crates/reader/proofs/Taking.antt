@@ -1,6 +1,6 @@
 -- An option takes an argument: the first flag of it, and what is left. Assumes nothing.
 use Rattle.std.proofs.Common.{◌≡◌, ℕ, ◌+◌, ◌-◌, ◌<◌, ◌≤◌, ◌⊎◌, List, [], ◌∷◌, ◌++◌, length, take, drop, Some, None, Option, sym, refl, ap, ◌∙◌, inl, inr, arith, length-append, length-drop}
-use Rattle.std.proofs.lemmas.List.{drop_all, drop_at, drop-drop, drop-take, length-take_le, take_all}
+use Rattle.std.proofs.lemmas.List.{drop_all, drop_at, drop-drop, drop-take, length-take-le, take_all}
 use Rattle.std.proofs.lemmas.Bool.{cases_lt}
 use Rattle.construct.specs.Made.{first_made}
 use Rattle.flags.specs.Meaning.{Bytes, Meaning}
@@ -38,7 +38,7 @@ module _ (o : Options) (text a : Bytes) (end place : ℕ) (args : List Bytes) (i
       left = length a - n
 
       long : length is.front + length a ≡ end
-      long = sym (length-append is.front a) ∙ ap length (sym is.there) ∙ length-take_le end text is.within
+      long = sym (length-append is.front a) ∙ ap length (sym is.there) ∙ length-take-le end text is.within
 
       rest_there : drop n a ≡ take left (drop (end - left) text)
       rest_there =
@@ -70,7 +70,7 @@ module _ (o : Options) (text : Bytes) (at left : ℕ) (in' : at ≤ length text)
 
   short_or_all : (left < length (drop at text)) ⊎ (length (drop at text) ≤ left) → (drop (at + left) text ≡ drop (at + length l) text) × (l ≡ take (length l) (drop at text))
   short_or_all (inl fits) =
-      let long : length l ≡ left = ap length is ∙ length-take_le left (drop at text) (omega arith) in
+      let long : length l ≡ left = ap length is ∙ length-take-le left (drop at text) (omega arith) in
       (ap (λ n. drop (at + n) text) (sym long), is ∙ ap (λ n. take n (drop at text)) (sym long))
   short_or_all (inr over) =
       let whole : l ≡ drop at text = is ∙ take_all left (drop at text) over in
@@ -84,7 +84,7 @@ module _ (o : Options) (text : Bytes) (at left : ℕ) (in' : at ≤ length text)
   list_within = fits (cases_lt left (length (drop at text)))
     where
       fits : (left < length (drop at text)) ⊎ (length (drop at text) ≤ left) → at + length l ≤ length text
-      fits (inl f) = omega (arith, ap length is ∙ length-take_le left (drop at text) (omega arith), length-drop at text)
+      fits (inl f) = omega (arith, ap length is ∙ length-take-le left (drop at text) (omega arith), length-drop at text)
       fits (inr over) = omega (arith, ap length (is ∙ take_all left (drop at text) over), length-drop at text)
 
   by_list : (f : Option (Meaning × ℕ)) → f ≡ first_made c l → listed ≡ chosen l (between args_left) (λ more. in_list c more args_left) (first o (between args_left)) f

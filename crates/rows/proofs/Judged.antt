@@ -3,7 +3,7 @@ use Rattle.std.proofs.Common.{◌≡◌, ℕ, zero, suc, ◌+◌, ◌<◌, ◌�
 use Rattle.std.specs.List.{slice_get}
 use Rattle.std.specs.Str.{bytes_eq}
 use Rattle.std.proofs.lemmas.Slice.Eq.{bytes_eq-Decides}
-use Rattle.std.proofs.lemmas.Bool.{and_parts, and_from, or_parts, or_from, both_ways, cases_Bool, cond-true, cond-false, eqb-true, eqb-false, eq-eqb, ne_eqb, leb_true, le-leb, ltb-true, lt-ltb, not-true, not_from_false}
+use Rattle.std.proofs.lemmas.Bool.{and_parts, and_from, or_parts, or_from, both_ways, cases_Bool, cond-true, cond-false, eqb-true, eqb-false, eq-eqb, ne_eqb, leb-true, le-leb, ltb-true, lt-ltb, not-true, not_from_false}
 use Rattle.text.specs.Cuts.{begins}
 use Rattle.text.specs.declared.refusals.Refusal.{Refusal}
 use Rattle.text.specs.declared.refusals.Refusal.TheVariants.{BadRow, NameTwice, HomeMissing}
@@ -46,10 +46,10 @@ Apart rows = (i j : ℕ) (a b : Row) → i < j → slice_get rows i ≡ Some a �
 
 behind_place : (place : ℕ) (rows : List Row) → in_order place rows ≡ true → (j : ℕ) (b : Row) → slice_get rows j ≡ Some b → place ≤ b.offset
 behind_place place [] o j b e = no_place j b e
-behind_place place (row ∷ rows) o zero b e = subst (λ (r : Row). place ≤ r.offset) (first_place row b rows e) (leb_true place row.offset (and_parts (leb place row.offset) (in_order (row.offset + row.length) rows) o).0)
+behind_place place (row ∷ rows) o zero b e = subst (λ (r : Row). place ≤ r.offset) (first_place row b rows e) (leb-true place row.offset (and_parts (leb place row.offset) (in_order (row.offset + row.length) rows) o).0)
 behind_place place (row ∷ rows) o (suc j) b e =
     let parts = and_parts (leb place row.offset) (in_order (row.offset + row.length) rows) o in
-    let here : place ≤ row.offset = leb_true place row.offset parts.0 in
+    let here : place ≤ row.offset = leb-true place row.offset parts.0 in
     let later : row.offset + row.length ≤ b.offset = behind_place (row.offset + row.length) rows parts.1 j b e in
     omega arith
 
@@ -141,7 +141,7 @@ byte_parts : (b : ℕ) → name_byte b ≡ true → (33 ≤ b) × (b ≤ 126) ×
 byte_parts b e =
     let range = and_parts (leb 33 b && leb b 126) (not (eqb b 61)) e in
     let ends = and_parts (leb 33 b) (leb b 126) range.0 in
-    (leb_true 33 b ends.0, leb_true b 126 ends.1, eqb-false b 61 (not-true (eqb b 61) range.1))
+    (leb-true 33 b ends.0, leb-true b 126 ends.1, eqb-false b 61 (not-true (eqb b 61) range.1))
 
 byte_from : (b : ℕ) → (33 ≤ b) × (b ≤ 126) × (b ≡ 61 → ⊥) → name_byte b ≡ true
 byte_from b h = and_from (leb 33 b && leb b 126) (not (eqb b 61)) (and_from (leb 33 b) (leb b 126) (le-leb 33 b h.0) (le-leb b 126 h.1)) (not_from_false (eqb b 61) (ne_eqb b 61 h.2))
@@ -169,11 +169,11 @@ module _ (text : List ℕ) (row : Row) where
       let front = and_parts (ltb 0 (length its_name)) (not (begins 45 its_name)) name.0 in
       let some : 0 < length its_name = ltb-true 0 (length its_name) front.0 in
       record {
-        inside = leb_true (row.offset + row.length) (length text) inner.0;
+        inside = leb-true (row.offset + row.length) (length text) inner.0;
         a_byte = omega (arith, name_length);
         bytes = λ k b f. byte_parts b (every_there name_byte its_name name.1 k b f);
         no_dash = λ f. both_ways (begins 45 its_name) (not-true (begins 45 its_name) front.1) (begins_there its_name f);
-        a_code = leb_true row.code 32 outer.1;
+        a_code = leb-true row.code 32 outer.1;
       }
 
   row_from : GoodRow text row → good_row text row ≡ true
@@ -240,7 +240,7 @@ module _ (text : List ℕ) (rows : List Row) where
       let placed = and_parts (leb (length rows) 256 && in_order 0 rows) (every (good_row text) rows) found.0 in
       let front = and_parts (leb (length rows) 256) (in_order 0 rows) placed.0 in
       record {
-        few = leb_true (length rows) 256 front.0;
+        few = leb-true (length rows) 256 front.0;
         each = λ i row f. row_parts text row (every_there (good_row text) rows placed.1 i row f);
         apart = apart_from 0 rows front.1;
         once = once_from text rows found.1;

@@ -1,7 +1,7 @@
 -- Rows that lie back to back, and what they cut a text into. Assumes nothing.
 use Rattle.std.proofs.Common.{◌≡◌, ℕ, zero, suc, ◌+◌, ◌-◌, ◌<◌, ◌≤◌, Bool, true, false, cond, ◌&&◌, eqb, leb, ◌⊎◌, List, [], ◌∷◌, ◌++◌, length, get_or, take, drop, set, replicate, Some, None, Option, sym, refl, ap, ◌∙◌, subst, inl, inr, ⊎_elim, arith}
 use Rattle.std.specs.List.{slice_get}
-use Rattle.std.proofs.lemmas.List.{append_assoc, append-nil, length-append, length-drop, length-take-le, length-replicate, length-set, nil_from_length, take_all, take_at, take-append-le, take-append-drop, take_more_set, replicate_more, drop_at, drop-append-le, drop-drop, drop-replicate, drop-set, drop-set_lt, take-set-le, replicate-append-replicate}
+use Rattle.std.proofs.lemmas.List.{append_assoc, append-nil, length-append, length-drop, length-take-le, length-replicate, length-set, nil_from_length, take_all, take_at, take-append-le, take-append-drop, take_more_set, replicate_more, drop_at, drop-append-le, drop-drop, drop-replicate, drop-set, drop-set-lt, take-set-le, replicate-append-replicate}
 use Rattle.std.proofs.lemmas.Bool.{cases_lt, le-leb, lt-leb, eqb-true, eq-eqb, and_parts, and_from}
 use Rattle.sinks.specs.Sinks.{Bar, full, or_else, first_bar}
 use Rattle.sheet.specs.Rows.{Chained, chained, cut_up, ClearFrom, BlankFrom, Cleared}
@@ -108,7 +108,7 @@ not_all_fit limit rows list a (b ∷ bs) fit h =
 -- zeros up to the limit, one more and one less
 module _ (limit : ℕ) (bytes : List ℕ) (at : ℕ) (in' : at < limit) (long : limit ≤ length bytes) where
   pub beyond_kept : (b : ℕ) → drop limit (set bytes at b) ≡ drop limit bytes
-  beyond_kept b = drop-set_lt limit bytes at b in'
+  beyond_kept b = drop-set-lt limit bytes at b in'
 
   pub cleared : Cleared limit bytes at
   cleared =
@@ -128,7 +128,7 @@ module _ (limit : ℕ) (bytes : List ℕ) (at : ℕ) (in' : at < limit) (long : 
       let before : at < at + 1 = omega arith in
       let some : 1 ≤ length (replicate {A = ℕ} (limit - at) 0) = omega (arith, length-replicate {A = ℕ} (limit - at) 0) in
       let sum : limit - at - 1 ≡ limit - (at + 1) = omega arith in
-      drop-set_lt (at + 1) bytes at b before ∙ sym (drop-drop 1 at bytes) ∙ ap (drop 1) z ∙ drop-append-le 1 (replicate (limit - at) 0) (drop limit bytes) some
+      drop-set-lt (at + 1) bytes at b before ∙ sym (drop-drop 1 at bytes) ∙ ap (drop 1) z ∙ drop-append-le 1 (replicate (limit - at) 0) (drop limit bytes) some
       ∙ (λ i. (drop-replicate 1 (limit - at) 0 ∙ ap (λ n. replicate n 0) sum) i ++ sym (beyond_kept b) i)
 
 -- a table filled with zeros, from its start on

@@ -2,7 +2,7 @@
 use Rattle.std.proofs.Common.{◌≡◌, ℕ, ◌+◌, ◌-◌, ◌<◌, ◌≤◌, Bool, true, false, cond, ◌⊎◌, List, [], ◌∷◌, ◌++◌, length, get_or, take, drop, set, replicate, Some, None, Option, sym, refl, ap, ◌∙◌, subst, inl, inr, ⊎_elim, arith}
 use Rattle.std.specs.List.{slice_get}
 use Rattle.std.specs.Option.{option_map}
-use Rattle.std.proofs.lemmas.List.{append_assoc, append-nil, length-append, length-drop, length-set, length-take-le, take-append-drop, take_at, take-take, take_all, take_more, take-set_le, take_more_set, drop-append-le, drop_all, drop-take, get_or-take}
+use Rattle.std.proofs.lemmas.List.{append_assoc, append-nil, length-append, length-drop, length-set, length-take-le, take-append-drop, take_at, take-take, take_all, take_more, take-set-le, take_more_set, drop-append-le, drop_all, drop-take, get_or-take}
 use Rattle.std.proofs.lemmas.Bool.{cases_Bool}
 use Rattle.sinks.specs.Sinks.{Held, full, refusal, first_bar, begun, written, finished}
 use Rattle.sinks.proofs.Spaces.{one_zero_more, one_zero_less}
@@ -138,7 +138,7 @@ module _ (s : Sheet) where
     push_beyond = row.beyond_kept s.limit bytes s.used space limit_fits.0 b
 
     same : take s.finished pushed ≡ text
-    same = take-set_le s.finished bytes s.used b s.order
+    same = take-set-le s.finished bytes s.used b s.order
 
     tail_more : drop s.finished (take (s.used + 1) pushed) ≡ tail ++ b ∷ []
     tail_more = ap (drop s.finished) (take_more_set bytes s.used b in_bytes) ∙ drop-append-le s.finished (take s.used bytes) (b ∷ []) (omega (arith, used_long, s.order))
@@ -204,7 +204,7 @@ module _ (s : Sheet) where
     parts = row.chained_last 0 (take last pairs) p s.finished (subst (λ l. Chained 0 l s.finished) split chain)
 
     same_rows : take last opened ≡ take last pairs
-    same_rows = take-set_le last pairs last (0, 0) (omega arith)
+    same_rows = take-set-le last pairs last (0, 0) (omega arith)
 
     pub open_order : p.0 ≤ s.used
     open_order = omega (arith, parts.1, s.order)

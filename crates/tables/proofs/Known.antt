@@ -1,6 +1,6 @@
 -- The ways to tell whether a kind is in a table. Assumes nothing.
 use Rattle.std.proofs.Common.{◌≡◌, ℕ, Bool, true, false, eqb, List, [], ◌∷◌, Some, None, Option, sym, refl, ap, ◌∙◌, subst, arith}
-use Rattle.std.proofs.lemmas.Bool.{eqb-true, eq_eqb, both_ways}
+use Rattle.std.proofs.lemmas.Bool.{eqb-true, eq-eqb, both_ways}
 use Rattle.text.specs.Shapes.{Form, form_of, empty, single, double, long, short, plain}
 use Rattle.flags.specs.Codes.{about, home}
 use Rattle.flags.specs.declared.kinds.Code.{Code}
@@ -56,7 +56,7 @@ own kind.RemapPathPrefix = refl
 
 module _ (o : Options) (k : Kind) where
   told : (a : Option Code) → a ≡ Some (Of k) → tested k a ≡ true
-  told a e = ap (tested k) e ∙ eq_eqb _ _ refl
+  told a e = ap (tested k) e ∙ eq-eqb _ _ refl
 
   only_own : (a : Option Code) → tested k a ≡ true → a ≡ Some (Of k)
   only_own None e = absurd (both_ways _ refl e)

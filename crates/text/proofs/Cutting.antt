@@ -1,5 +1,5 @@
 -- Laws of the places of a byte and of the cuts there. Assumes nothing.
-use Rattle.std.proofs.Common.{◌≡◌, ℕ, zero, suc, ◌+◌, ◌-◌, ◌<◌, ◌≤◌, Bool, true, false, cond, ◌||◌, eqb, List, [], ◌∷◌, ◌++◌, length, get_or, take, drop, is_some, Some, None, Option, sym, refl, ap, ◌∙◌, add-zero, zero_add, add-one, arith}
+use Rattle.std.proofs.Common.{◌≡◌, ℕ, zero, suc, ◌+◌, ◌-◌, ◌<◌, ◌≤◌, Bool, true, false, cond, ◌||◌, eqb, List, [], ◌∷◌, ◌++◌, length, get_or, take, drop, is_some, Some, None, Option, sym, refl, ap, ◌∙◌, add-zero, zero-add, add-one, arith}
 use Rattle.std.specs.Option.{option_map}
 use Rattle.std.proofs.lemmas.List.{at_drop_more, drop_more, take_more, take_rest, drop_all, length-take-le}
 use Rattle.std.proofs.lemmas.Bool.{ne_eqb, eq-eqb, eqb-true, cond-true, cond-false, or_from}
@@ -16,7 +16,7 @@ passed i o = option_map (λ j. i + j) o
 
 pub passed_none : (o : Option ℕ) → passed 0 o ≡ o
 passed_none None = refl
-passed_none (Some j) = ap Some (zero_add j)
+passed_none (Some j) = ap Some (zero-add j)
 
 pub passed_one : (i : ℕ) (o : Option ℕ) → passed i (option_map suc o) ≡ passed (i + 1) o
 passed_one i None = refl
@@ -140,7 +140,7 @@ module _ (b : ℕ) (bs : List ℕ) (i : ℕ) (in' : i < length bs) where
   occurrences_here e = at_drop_more (occurrences b) bs i 0 in' ∙ ap (λ n. n + occurrences b (drop (i + 1) bs)) (cond-true _ 1 0 (eq-eqb _ b e))
 
   pub occurrences_past : (get_or bs i 0 ≡ b → ⊥) → occurrences b (drop i bs) ≡ occurrences b (drop (i + 1) bs)
-  occurrences_past ne = at_drop_more (occurrences b) bs i 0 in' ∙ ap (λ n. n + occurrences b (drop (i + 1) bs)) (cond-false _ 1 0 (ne_eqb _ b ne)) ∙ zero_add _
+  occurrences_past ne = at_drop_more (occurrences b) bs i 0 in' ∙ ap (λ n. n + occurrences b (drop (i + 1) bs)) (cond-false _ 1 0 (ne_eqb _ b ne)) ∙ zero-add _
 
 -- no b stands behind the last one
 back_at : (b x : ℕ) (xs : List ℕ) (p : Halves) (t : Bool) (o : Option Halves) → ((q : Halves) → o ≡ Some q → holds b q.1 ≡ false) → (o ≡ None → holds b xs ≡ false) → ◌≡◌ {A = Option Halves} (elim o [ Some q ↦ Some (with_front x q) | None ↦ cond t (Some ([], xs)) None ]) (Some p) → holds b p.1 ≡ false

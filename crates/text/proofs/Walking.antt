@@ -1,6 +1,6 @@
 -- The piece at a place, from the cut of what is left there. Assumes nothing.
 use Rattle.std.proofs.Common.{◌≡◌, ℕ, suc, ◌+◌, ◌-◌, ◌<◌, ◌≤◌, min, ◌⊎◌, List, [], ◌∷◌, ◌++◌, length, get_or, take, drop, Some, None, Option, sym, refl, ap, ◌∙◌, subst, inl, inr, add-one, arith, length-append, length-drop}
-use Rattle.std.proofs.lemmas.List.{get_or-drop, get_or_at, take_rest, take_all, drop_all, drop-drop, length-take_le}
+use Rattle.std.proofs.lemmas.List.{get_or-drop, get_or_at, take_rest, take_all, drop_all, drop-drop, length-take-le}
 use Rattle.std.proofs.lemmas.Bool.{cases_lt}
 use Rattle.text.specs.Arguments.{pieces, piece_at, place_behind, CutAtEdges}
 use Rattle.text.specs.Cuts.{Halves, sides, cut_first}
@@ -88,7 +88,7 @@ module _ (b : ℕ) (bs : List ℕ) (at start : ℕ) (is : start ≡ min at (leng
     pub bounded_there : len < length part → Some (sides part len) ≡ cut_first b part → Bounded len
     bounded_there in' cut =
         let one = there_within b bs at part left_there (sides part len) cut in
-        let size : length (take len part) ≡ len = length-take_le len part within in
+        let size : length (take len part) ≡ len = length-take-le len part within in
         let same : start ≡ at = omega (arith, long) in
         record {
           piece = front ∙ piece_there b bs at part left_there (sides part len) cut;

@@ -22,4 +22,4 @@ returns c =
     let text = c.args.text.now in
     let n : c.loop-b.n ≡ occurrences separator text + 1 = omega (arith, at_drop_all (occurrences separator) text c.loop-b.b-index c.loop-b-test.false) in
     let some : 0 < length text = omega (arith, eqb-false (length text) 0 (sym c.if-is_empty.ensures)) in
-    record { answer = n ∙ sym (length-arguments text some); one-more-than-separators = λ _. n; joins_back = joins_back text }
+    record { answer = n ∙ sym (length-arguments text some); one_more_than_separators = λ _. n; joins_back = joins_back text }
