@@ -1,7 +1,7 @@
 -- The flags that options make are sound: their texts are UTF-8, and their fields lack the bytes that would end them. Assumes nothing.
 use Rattle.std.proofs.Common.{◌≡◌, ℕ, ◌<◌, Bool, true, false, cond, not, ◌&&◌, eqb, List, [], ◌∷◌, ◌++◌, map, length, Some, None, codes, Option, sym, refl, ap, ◌∙◌, arith, lit<}
 use Rattle.std.specs.Option.{option_map, option_to_list}
-use Rattle.std.specs.List.{AllByRecursion as All}
+use Rattle.std.specs.List.{AllByRecursion}
 use Rattle.std.proofs.lemmas.Bool.{and_parts, and_from, eqb-true, false≢true}
 use Rattle.utf8.specs.Utf8.{utf8}
 use Rattle.utf8.proofs.Laws.{utf8_cut}
@@ -25,7 +25,7 @@ abbrev Good : Option Meaning → Type 0
 Good None = Unit {0}
 Good (Some m) = Sound m
 
-good_list : (o : Option Meaning) → Good o → All Sound (option_to_list o)
+good_list : (o : Option Meaning) → Good o → AllByRecursion Sound (option_to_list o)
 good_list None g = tt
 good_list (Some m) g = (g, tt)
 
@@ -33,7 +33,7 @@ good_mapped : {X : Type 0} (make : X → Meaning) → ((x : X) → Sound (make x
 good_mapped make each None = tt
 good_mapped make each (Some x) = each x
 
-good_words : {X : Type 0} (make : X → Meaning) → ((x : X) → Sound (make x)) → (ws : List X) → All Sound (map make ws)
+good_words : {X : Type 0} (make : X → Meaning) → ((x : X) → Sound (make x)) → (ws : List X) → AllByRecursion Sound (map make ws)
 good_words make each [] = tt
 good_words make each (w ∷ ws) = (each w, good_words make each ws)
 
@@ -140,7 +140,7 @@ sound_optimize : Sound (codegen (codes "opt-level") (Some (codes "2")))
 unfolding utf8
 sound_optimize = record { texts = refl; bytes = refl }
 
-pub sound_made : (c : Code) (a : Bytes) → All Sound (all_made c a)
+pub sound_made : (c : Code) (a : Bytes) → AllByRecursion Sound (all_made c a)
 sound_made (Of kind.Help) a = (record { texts = refl; bytes = refl }, tt)
 sound_made (Of kind.Cfg) a = good_list _ (good_cfg a)
 sound_made (Of kind.LibrarySearchPath) a = good_list _ (path_at a (cut_first 61 a))

@@ -3,7 +3,7 @@
 
 ghost use Rattle.std.specs.Prelude.{◌≡◌};
 ghost use Rattle.std.specs.Option.{option_map, option_to_list};
-ghost use Rattle.std.specs.List.{AllByRecursion as All};
+ghost use Rattle.std.specs.List.{AllByRecursion};
 ghost use Rattle.construct.specs.Made.{used_up, heads, first_made, all_made, from_first};
 ghost use Rattle.flags.specs.Meaning.{meaning};
 ghost use Rattle.flags.specs.Sound.{Sound};
@@ -66,7 +66,7 @@ fn first_flag(code: Code, arg: &[u8]) -> Option<(Flag<'_>, usize)>
 pub fn make(code: Code, arg: &[u8]) -> Option<(Flag<'_>, usize)>
     ensures answer { option_map placed result ≡ first_made code arg.now }
     ensures all { all_made code arg.now ≡ from_first code arg.now (option_map placed result) }
-    ensures sound { All Sound (all_made code arg.now) }
+    ensures sound { AllByRecursion Sound (all_made code arg.now) }
 {
     first_flag(code, arg)
 }

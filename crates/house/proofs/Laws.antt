@@ -1,6 +1,6 @@
 -- A house table is lawful, since its rows are good. Assumes nothing.
 use Rattle.std.proofs.Common.{◌≡◌, ℕ, suc, ◌<◌, ◌≤◌, Bool, true, false, not, eqb, leb, List, [], ◌∷◌, length, Some, None, Option, sym, refl, ap, ◌∙◌, subst, ⊎_elim, arith}
-use Rattle.std.specs.List.{slice_get, AllByRecursion as All}
+use Rattle.std.specs.List.{slice_get, AllByRecursion}
 use Rattle.std.proofs.lemmas.Bool.{and_from, both_ways, cases_Bool, cond-true, cond-false, ne_eqb, not_from_false, or_from}
 use Rattle.utf8.specs.Utf8.{utf8}
 use Rattle.utf8.proofs.Laws.{utf8_ascii}
@@ -22,7 +22,7 @@ use Rattle.house.specs.House.{said, accepted}
 abbrev NameBytes : List ℕ → Type 0
 NameBytes n = (k b : ℕ) → slice_get n k ≡ Some b → (33 ≤ b) × (b ≤ 126) × (b ≡ 61 → ⊥)
 
-all_ascii : (n : List ℕ) → NameBytes n → All (λ b. b < 128) n
+all_ascii : (n : List ℕ) → NameBytes n → AllByRecursion (λ b. b < 128) n
 all_ascii [] bytes = tt
 all_ascii (b ∷ n) bytes = let low : b ≤ 126 = (bytes 0 b refl).1 in (omega arith, all_ascii n (λ k c e. bytes (suc k) c e))
 

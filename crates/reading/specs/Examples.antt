@@ -1,6 +1,6 @@
 -- Texts, and the flags that they give under the options of rustc. Assumes nothing.
 use Rattle.std.specs.Prelude.{◌≡◌, ℕ, List, [], ◌∷◌, Some, None, codes, Option}
-use Rattle.std.specs.List.{slice_get, AllByRecursion as All}
+use Rattle.std.specs.List.{slice_get, AllByRecursion}
 use Rattle.std.specs.Option.{option_map}
 use Rattle.flags.specs.Meaning.{Bytes, Meaning, help, version, verbose, allow, out, codegen, cfg, emit, remap_path_prefix, link, edition}
 use Rattle.words.specs.declared.link.LinkKind.TheVariants.{Dylib}
@@ -47,4 +47,4 @@ ReadsSo e = reading rustc (arguments e.text) ≡ e.flags
 
 -- each text gives its flags
 pub record AllRead : Type 0 where
-  pub each : All ReadsSo examples
+  pub each : AllByRecursion ReadsSo examples

@@ -2,7 +2,7 @@
 use Rattle.std.specs.Prelude.{◌≡◌, ℕ, ◌≤◌, true, false, List, [], ◌∷◌, Some, None, Option, slice_index, slice_index_or, refl}
 use Rattle.std.proofs.Common.{sym, ap, subst, ◌∙◌, ⊎_elim, arith}
 use Rattle.std.specs.Option.{option_map}
-use Rattle.std.specs.List.{AllByRecursion as All}
+use Rattle.std.specs.List.{AllByRecursion}
 use Rattle.std.specs.Str.{bytes_eq}
 use Rattle.std.proofs.lemmas.Slice.Eq.{bytes_eq-Decides}
 use Rattle.std.proofs.lemmas.Bool.{cases_Bool, cond-true, cond-false, both_ways}
@@ -18,7 +18,7 @@ use Rattle.tables.specs.Tables.{is_name, AtHome, Given, Lawful, by_letter as giv
 
 module _ {W : Type 0} (spelled : W → List ℕ) (P : W → Type 0) where
   -- what is read is one of the words, and spelled so
-  pub read_one : (ws : List W) → All P ws → (bs : List ℕ) (w : W) → read ws spelled bs ≡ Some w → P w × (bs ≡ spelled w)
+  pub read_one : (ws : List W) → AllByRecursion P ws → (bs : List ℕ) (w : W) → read ws spelled bs ≡ Some w → P w × (bs ≡ spelled w)
   read_one [] ps bs w e = absurd (let z : ◌≡◌ {A = ℕ} 0 1 = cc in omega arith)
   read_one (v ∷ ws) ps bs w e = ⊎_elim
       (λ t. let f : Some v ≡ Some w = sym (cond-true _ _ _ t) ∙ e in let same : v ≡ w = cc in (subst P same ps.0, sym ((bytes_eq-Decides (spelled v) bs).0 t) ∙ ap spelled same))
@@ -29,7 +29,7 @@ module _ {W : Type 0} (spelled : W → List ℕ) (P : W → Type 0) where
 abbrev Row : Spelling → Type 0
 Row r = (slice_index r.name 0 ≤ 127) × AtHome rustc (about r.code).makes
 
-rows : All Row letters
+rows : AllByRecursion Row letters
 rows = ((omega arith, refl), ((omega arith, refl), ((omega arith, refl), ((omega arith, refl), ((omega arith, refl), ((omega arith, refl), ((omega arith, refl), ((omega arith, refl), ((omega arith, refl), ((omega arith, refl), ((omega arith, refl), ((omega arith, refl), ((omega arith, refl), ((omega arith, refl), tt))))))))))))))
 
 by_row : (b : ℕ) (o : Option Spelling) → read letters (λ r. r.name) (b ∷ []) ≡ o → (c : Code) → option_map (λ r. r.code) o ≡ Some c → (b ≤ 127) × AtHome rustc (about c).makes
@@ -106,7 +106,7 @@ long_home option.RemapPathPrefix = refl
 abbrev Every : LongOption → Type 0
 Every w = Unit {0}
 
-every : (ws : List LongOption) → All Every ws
+every : (ws : List LongOption) → AllByRecursion Every ws
 every [] = tt
 every (w ∷ ws) = (tt, every ws)
 

@@ -1,6 +1,6 @@
 -- Cutting and joining undo each other. Assumes nothing.
 use Rattle.std.proofs.Common.{◌≡◌, ℕ, zero, suc, ◌+◌, ◌<◌, ◌≤◌, Bool, true, false, cond, ◌||◌, eqb, List, [], ◌∷◌, ◌++◌, map, length, get_or, take, Decides, sym, refl, ap, ◌∙◌, subst, arith, length-append, Bor}
-use Rattle.std.specs.List.{AllByRecursion as All}
+use Rattle.std.specs.List.{AllByRecursion}
 use Rattle.std.proofs.ByRecursion.{All-map, All-get_or}
 use Rattle.std.proofs.lemmas.List.{take_all, get_or-map, length-map, nil_from_length}
 use Rattle.std.proofs.lemmas.Bool.{cond-true, cond-false, eqb-true, eq-eqb, or_parts, false≢true, both_ways}
@@ -41,15 +41,15 @@ module _ (b : ℕ) where
   joined-pieces [] = refl
   joined-pieces (x ∷ xs) = joined_at (eqb x b) x xs (pieces b xs) (eqb-true x b) (pieces_some xs) (joined-pieces xs)
 
-  onto_whole : (x : ℕ) (ps : List (List ℕ)) → eqb x b ≡ false → All (Whole b) ps → All (Whole b) (onto_first x ps)
+  onto_whole : (x : ℕ) (ps : List (List ℕ)) → eqb x b ≡ false → AllByRecursion (Whole b) ps → AllByRecursion (Whole b) (onto_first x ps)
   onto_whole x [] ne all = (rw ne, tt)
   onto_whole x (p ∷ ps) ne all = (rw ne all.0, all.1)
 
-  whole_at : (t : Bool) (x : ℕ) (ps : List (List ℕ)) → eqb x b ≡ t → All (Whole b) ps → All (Whole b) (cond t ([] ∷ ps) (onto_first x ps))
+  whole_at : (t : Bool) (x : ℕ) (ps : List (List ℕ)) → eqb x b ≡ t → AllByRecursion (Whole b) ps → AllByRecursion (Whole b) (cond t ([] ∷ ps) (onto_first x ps))
   whole_at true x ps e all = (refl, all)
   whole_at false x ps e all = onto_whole x ps e all
 
-  pub pieces_whole : (bs : List ℕ) → All (Whole b) (pieces b bs)
+  pub pieces_whole : (bs : List ℕ) → AllByRecursion (Whole b) (pieces b bs)
   pieces_whole [] = (refl, tt)
   pieces_whole (x ∷ xs) = whole_at (eqb x b) x (pieces b xs) refl (pieces_whole xs)
 
@@ -61,7 +61,7 @@ module _ (b : ℕ) where
   pieces_cut [] rest h = cond-true _ _ _ (eq-eqb b b refl)
   pieces_cut (x ∷ xs) rest h = let parts = or_parts (eqb x b) (holds b xs) h in cond-false _ _ _ parts.0 ∙ ap (onto_first x) (pieces_cut xs rest parts.1)
 
-  pub pieces-joined : (p : List ℕ) (ps : List (List ℕ)) → All (Whole b) (p ∷ ps) → pieces b (joined_by b (p ∷ ps)) ≡ p ∷ ps
+  pub pieces-joined : (p : List ℕ) (ps : List (List ℕ)) → AllByRecursion (Whole b) (p ∷ ps) → pieces b (joined_by b (p ∷ ps)) ≡ p ∷ ps
   pieces-joined p [] all = pieces_one p all.0
   pieces-joined p (q ∷ ps) all = pieces_cut p (joined_by b (q ∷ ps)) all.0 ∙ ap (λ l. p ∷ l) (pieces-joined q ps all.1)
 
@@ -73,22 +73,22 @@ arguments_some : (bs : List ℕ) → 0 < length bs → arguments bs ≡ pieces s
 arguments_some [] h = absurd (omega arith)
 arguments_some (x ∷ xs) h = refl
 
-arguments_whole : (bs : List ℕ) → All (Whole separator) (arguments bs)
+arguments_whole : (bs : List ℕ) → AllByRecursion (Whole separator) (arguments bs)
 arguments_whole [] = tt
 arguments_whole (x ∷ xs) = pieces_whole separator (x ∷ xs)
 
 pub length-arguments : (bs : List ℕ) → 0 < length bs → length (arguments bs) ≡ occurrences separator bs + 1
 length-arguments bs h = ap length (arguments_some bs h) ∙ length-pieces separator bs
 
-pub cuts_back : (list : List (List ℕ)) → All (Whole separator) list → (LoneEmpty list → ⊥) → CutsBack list
+pub cuts_back : (list : List (List ℕ)) → AllByRecursion (Whole separator) list → (LoneEmpty list → ⊥) → CutsBack list
 cuts_back [] all more = refl
 cuts_back ([] ∷ []) all more = absurd (more refl)
 cuts_back ((x ∷ xs) ∷ []) all more = pieces_one separator (x ∷ xs) all.0
 cuts_back (a ∷ c ∷ cs) all more =
     arguments_some (join (a ∷ c ∷ cs)) (simp length-append (omega arith)) ∙ pieces-joined separator a (c ∷ cs) all
 
-pub cuts_back_whole : (list : List (List ℕ)) → CutsBack list → All (Whole separator) list
-cuts_back_whole list e = subst (All (Whole separator)) e (arguments_whole (join list))
+pub cuts_back_whole : (list : List (List ℕ)) → CutsBack list → AllByRecursion (Whole separator) list
+cuts_back_whole list e = subst (AllByRecursion (Whole separator)) e (arguments_whole (join list))
 
 pub cuts_back_more : (list : List (List ℕ)) → CutsBack list → LoneEmpty list → ⊥
 cuts_back_more list e lone = let z : ◌≡◌ {A = ℕ} 0 1 = ap (λ l. length (arguments (join l))) (sym lone) ∙ ap length e ∙ ap length lone in omega arith
@@ -99,17 +99,17 @@ lone_cannot list lone = (λ e. absurd (false≢true e), λ back. absurd (cuts_ba
 
 module _ (xs : List (Bor (List ℕ))) where
   abbrev pub WholeTo : ℕ → Type 0
-  WholeTo i = All (λ x. Whole separator x.now) (take i xs)
+  WholeTo i = AllByRecursion (λ x. Whole separator x.now) (take i xs)
 
-  pub whole_all : (i : ℕ) → length xs ≤ i → WholeTo i → All (Whole separator) (map (λ x. x.now) xs)
-  whole_all i past inv = All-map (Whole separator) (λ x. x.now) xs (subst (All (λ x. Whole separator x.now)) (take_all i xs past) inv)
+  pub whole_all : (i : ℕ) → length xs ≤ i → WholeTo i → AllByRecursion (Whole separator) (map (λ x. x.now) xs)
+  whole_all i past inv = All-map (Whole separator) (λ x. x.now) xs (subst (AllByRecursion (λ x. Whole separator x.now)) (take_all i xs past) inv)
 
-  pub not_whole : (i : ℕ) (d : Bor (List ℕ)) → i < length xs → holds separator (get_or xs i d).now ≡ true → All (Whole separator) (map (λ x. x.now) xs) → ⊥
+  pub not_whole : (i : ℕ) (d : Bor (List ℕ)) → i < length xs → holds separator (get_or xs i d).now ≡ true → AllByRecursion (Whole separator) (map (λ x. x.now) xs) → ⊥
   not_whole i d in' e all =
       let here : Whole separator (get_or (map (λ x. x.now) xs) i d.now) = All-get_or (Whole separator) (map (λ x. x.now) xs) i d.now (simp length-map (omega arith)) all in
       both_ways _ (ap (holds separator) (sym (get_or-map (λ x. x.now) xs i d d.now in')) ∙ here) e
 
-  pub whole_back : (r : Bool) → Decides r (All (Whole separator) (map (λ x. x.now) xs)) → (LoneEmpty (map (λ x. x.now) xs) → ⊥) → Decides r (CutsBack (map (λ x. x.now) xs))
+  pub whole_back : (r : Bool) → Decides r (AllByRecursion (Whole separator) (map (λ x. x.now) xs)) → (LoneEmpty (map (λ x. x.now) xs) → ⊥) → Decides r (CutsBack (map (λ x. x.now) xs))
   whole_back r told more = (λ e. cuts_back _ (told.0 e) more, λ back. told.1 (cuts_back_whole _ back))
 
   pub lone_one : (d : Bor (List ℕ)) → length xs ≡ 1 → Decides (eqb (length (get_or xs 0 d).now) 0) (LoneEmpty (map (λ x. x.now) xs))

@@ -1,6 +1,6 @@
 -- A text and its arguments: the encoding of CARGO_ENCODED_RUSTFLAGS in the Cargo book. Assumes nothing.
 use Rattle.std.specs.Prelude.{◌≡◌, ℕ, ◌+◌, ◌≤◌, false, cond, List, [], ◌∷◌, ◌++◌, length, drop, Some, None, ◌==◌}
-use Rattle.std.specs.List.{AllByRecursion as All}
+use Rattle.std.specs.List.{AllByRecursion}
 use Rattle.text.specs.Cuts.{holds, cut_first}
 use Rattle.text.specs.Edges.{Edge}
 
@@ -58,7 +58,7 @@ LoneEmpty list = list ≡ [] ∷ []
 
 -- what a joined text can carry
 abbrev pub Carried : List (List ℕ) → Type 0
-Carried list = All (Whole separator) list × (LoneEmpty list → ⊥)
+Carried list = AllByRecursion (Whole separator) list × (LoneEmpty list → ⊥)
 
 -- Joining the arguments of a text gives the text back.
 abbrev pub JoinsBack : List ℕ → Type 0

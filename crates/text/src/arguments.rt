@@ -1,6 +1,6 @@
 // A text as a list of arguments with 0x1f between them.
 ghost use Rattle.std.specs.Prelude.{◌≡◌, ◌+◌, ◌<◌, true, false, map, length, if◌then◌else◌, Ok, Err, Decides, nat_le};
-ghost use Rattle.std.specs.List.{AllByRecursion as All};
+ghost use Rattle.std.specs.List.{AllByRecursion};
 ghost use Rattle.text.specs.Arguments.{separator, longest_text, arguments, piece_at, place_behind, CutAtEdges, Whole, LoneEmpty, Carried, JoinsBack, CutsBack};
 ghost use Rattle.text.specs.Cuts.{occurrences};
 
@@ -60,7 +60,7 @@ fn is_lone_empty(list: &[&[u8]]) -> bool
 }
 
 fn all_whole(list: &[&[u8]]) -> bool
-    ensures whole { Decides result (All (Whole separator) (map (λ x. x.now) list.now)) }
+    ensures whole { Decides result (AllByRecursion (Whole separator) (map (λ x. x.now) list.now)) }
     ensures back { (LoneEmpty (map (λ x. x.now) list.now) → ⊥) → Decides result (CutsBack (map (λ x. x.now) list.now)) }
 {
     for argument in list {

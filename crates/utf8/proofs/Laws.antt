@@ -1,7 +1,7 @@
 -- Laws of well-formed UTF-8. Assumes nothing.
 use Rattle.std.proofs.Common.{◌≡◌, ℕ, suc, ◌+◌, ◌<◌, ◌≤◌, Bool, true, false, cond, ◌&&◌, ◌||◌, ltb, leb, List, [], ◌∷◌, ◌++◌, length, get_or, drop, Some, None, Decides, Option, sym, refl, ap, ◌∙◌, subst, ⊎_elim, arith}
 use mathlib.Core.Bool.{or-false}
-use Rattle.std.specs.List.{flat_map, AllByRecursion as All}
+use Rattle.std.specs.List.{flat_map, AllByRecursion}
 use Rattle.std.proofs.lemmas.List.{at_drop_more}
 use Rattle.std.proofs.lemmas.Bool.{and_parts, or_cases, both_ways, cases_Bool, leb-true}
 use Rattle.std.proofs.lemmas.Bool.Decides.{nat_tests}
@@ -78,7 +78,7 @@ behind_fits r row b d =
 
 -- the bytes are what is owed, and then characters
 abbrev Filled : Option (List Range) → List ℕ → Type 0
-Filled o bs = (d : List ℕ) × (cs : List (List ℕ)) × (fills o d ≡ true) × All Character cs × (d ++ flat_map (λ c. c) cs ≡ bs)
+Filled o bs = (d : List ℕ) × (cs : List (List ℕ)) × (fills o d ≡ true) × AllByRecursion Character cs × (d ++ flat_map (λ c. c) cs ≡ bs)
 
 filled : (o : Option (List Range)) (bs : List ℕ) → utf8_from o bs ≡ true → Filled o bs
 filled None bs h = absurd (both_ways false refl h)
@@ -103,7 +103,7 @@ unfolding utf8
 utf8_character [] h = refl
 utf8_character (b ∷ d) h = from_fills (begun table b) d (begun_fits table b d refl ∙ h)
 
-utf8-joined : (cs : List (List ℕ)) → All Character cs → utf8 (flat_map (λ c. c) cs) ≡ true
+utf8-joined : (cs : List (List ℕ)) → AllByRecursion Character cs → utf8 (flat_map (λ c. c) cs) ≡ true
 unfolding utf8
 utf8-joined [] h = refl
 utf8-joined (c ∷ cs) h = utf8_append c (flat_map (λ c. c) cs) (utf8_character c h.0) (utf8-joined cs h.1)
@@ -128,7 +128,7 @@ begun_ascii b h = rw (ascii_within b h)
 pub ascii_character : (b : ℕ) → b < 128 → Character (b ∷ [])
 ascii_character b h = rw (ascii_within b h)
 
-pub utf8_ascii : (bs : List ℕ) → All (λ b. b < 128) bs → utf8 bs ≡ true
+pub utf8_ascii : (bs : List ℕ) → AllByRecursion (λ b. b < 128) bs → utf8 bs ≡ true
 unfolding utf8
 utf8_ascii [] h = refl
 utf8_ascii (b ∷ bs) h = ap (λ (o : Option (List Range)). utf8_from o bs) (begun_ascii b h.0) ∙ utf8_ascii bs h.1

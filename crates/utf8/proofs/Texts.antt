@@ -1,7 +1,7 @@
 -- Well-formed UTF-8 is what encodes scalar values: the table and the arithmetic of the encoding agree. Assumes nothing.
 use Rattle.std.proofs.Common.{◌≡◌, ℕ, ◌+◌, ◌-◌, ◌*◌, ◌/◌, ◌<◌, ◌≤◌, true, false, ◌&&◌, ◌||◌, leb, ◌≢◌, ◌⊎◌, List, [], ◌∷◌, IsUtf8, Decides, sym, refl, ◌∙◌, subst, inl, inr, ⊎_elim, arith}
 use lib.Utf8.{scalar, scalars, encode, encodes, next, scalar_cases}
-use Rattle.std.specs.List.{flat_map, AllByRecursion as All}
+use Rattle.std.specs.List.{flat_map, AllByRecursion}
 use Rattle.std.proofs.lemmas.Bool.{and_parts, both_ways, cases_lt, le-ltb, leb-true, lt-ltb, or_cases}
 use Rattle.std.proofs.lemmas.Str.{encode_ascii, IsUtf8-append as text-append, IsUtf8-encode, IsUtf8-nil}
 use Rattle.std.proofs.lemmas.Bool.Decides.{nat_tests}
@@ -149,7 +149,7 @@ character_text (a ∷ b ∷ d ∷ e ∷ f ∷ bs) h = let l = character_length (
 
 -- Whole texts.
 
-joined_text : (cs : List (List ℕ)) → All Character cs → IsUtf8 (flat_map (λ c. c) cs)
+joined_text : (cs : List (List ℕ)) → AllByRecursion Character cs → IsUtf8 (flat_map (λ c. c) cs)
 joined_text [] h = IsUtf8-nil
 joined_text (c ∷ cs) h = text-append c (flat_map (λ c. c) cs) (character_text c h.0) (joined_text cs h.1)
 

@@ -1,6 +1,6 @@
 -- Well-formed UTF-8, from Table 3-7 of the Unicode Standard. Assumes nothing.
 use Rattle.std.specs.Prelude.{◌≡◌, ℕ, Bool, true, false, cond, ◌&&◌, ◌||◌, List, [], ◌∷◌, Some, None, Option, nat_le}
-use Rattle.std.specs.List.{flat_map, AllByRecursion as All}
+use Rattle.std.specs.List.{flat_map, AllByRecursion}
 
 -- the bytes from one to another, both included
 pub record Range : Type 0 where
@@ -45,7 +45,7 @@ Character bs = some_row_fits table bs ≡ true
 
 -- the bytes are characters, one behind the other
 abbrev pub Characters : List ℕ → Type 0
-Characters bs = (cs : List (List ℕ)) × All Character cs × (flat_map (λ c. c) cs ≡ bs)
+Characters bs = (cs : List (List ℕ)) × AllByRecursion Character cs × (flat_map (λ c. c) cs ≡ bs)
 
 -- The same as a test that goes from byte to byte. It keeps the ranges of the bytes that the last character still lacks.
 

@@ -1,7 +1,7 @@
 -- A comma list, part by part. Assumes nothing.
 use Rattle.std.proofs.Common.{◌≡◌, ℕ, zero, suc, ◌+◌, ◌<◌, ◌≤◌, Bool, true, false, cond, eqb, List, [], ◌∷◌, ◌++◌, map, length, drop, Some, None, Option, sym, refl, ap, ◌∙◌, ⊎_elim, le_refl, arith, length-append, length-drop}
 use Rattle.std.specs.Option.{option_map}
-use Rattle.std.specs.List.{AllByRecursion as All}
+use Rattle.std.specs.List.{AllByRecursion}
 use Rattle.std.proofs.lemmas.Bool.{and_parts, cases_lt, not-true, false≢true}
 use Rattle.std.proofs.lemmas.List.{drop_all, drop-drop, drop_at}
 use Rattle.text.specs.Arguments.{Whole, onto_first, pieces, piece_at, place_behind}
@@ -132,7 +132,7 @@ module _ {W : Type 0} (words : List W) (spelled : W → List ℕ) (spells : (w :
   known_spelled [] = refl
   known_spelled (w ∷ ws) = known_here (read words spelled) (spelled w) _ w (spells w) ∙ ap (λ vs. w ∷ vs) (known_spelled ws)
 
-  whole_spelled : (ws : List W) → All (Whole comma) (map spelled ws)
+  whole_spelled : (ws : List W) → AllByRecursion (Whole comma) (map spelled ws)
   whole_spelled [] = tt
   whole_spelled (w ∷ ws) = (clean_comma (spelled w) (cleans w), whole_spelled ws)
 

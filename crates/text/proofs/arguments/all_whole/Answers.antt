@@ -1,5 +1,5 @@
 use Rattle.std.proofs.Common.{◌≡◌, Bool, true, false, map, Decides, sym, refl}
-use Rattle.std.specs.List.{AllByRecursion as All}
+use Rattle.std.specs.List.{AllByRecursion}
 use Rattle.std.proofs.ByRecursion.{All-more}
 use Rattle.std.proofs.lemmas.Bool.{false≢true}
 use Rattle.text.specs.Arguments.{separator, Whole}
@@ -8,7 +8,7 @@ use Rattle.text.proofs.arguments.all_whole.Goals as goal
 
 pub returns-then-contains : goal.returns-then-contains
 returns-then-contains c =
-    let told : Decides false (All (Whole separator) (map (λ x. x.now) c.args.list.now)) = (λ e. absurd (false≢true e), λ all. absurd (not_whole _ _ _ c.loop-argument-test.true (sym c.if-contains.ensures) all)) in
+    let told : Decides false (AllByRecursion (Whole separator) (map (λ x. x.now) c.args.list.now)) = (λ e. absurd (false≢true e), λ all. absurd (not_whole _ _ _ c.loop-argument-test.true (sym c.if-contains.ensures) all)) in
     record { whole = told; back = whole_back c.args.list.now false told }
 
 pub loop-argument-preserved : goal.loop-argument-preserved
@@ -16,5 +16,5 @@ loop-argument-preserved c = All-more (λ x. Whole separator x.now) _ _ _ c.loop-
 
 pub returns : goal.returns
 returns c =
-    let told : Decides true (All (Whole separator) (map (λ x. x.now) c.args.list.now)) = (λ _. whole_all _ _ c.loop-argument-test.false c.loop-argument.invariant, λ _. refl) in
+    let told : Decides true (AllByRecursion (Whole separator) (map (λ x. x.now) c.args.list.now)) = (λ _. whole_all _ _ c.loop-argument-test.false c.loop-argument.invariant, λ _. refl) in
     record { whole = told; back = whole_back c.args.list.now true told }
