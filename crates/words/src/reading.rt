@@ -15,8 +15,8 @@ fn same(a: &[u8], b: &[u8]) -> bool
 
 // How many words to try: none for bytes longer than each spelling.
 fn tries<W: WordSet>(bytes: &[u8]) -> usize
-    ensures end { read (drop result words) spelled bytes.now ≡ None }
-    ensures exactly { ReadsExactly words spelled bytes.now }
+    ensures end { read (drop result W.words) W.spelled bytes.now ≡ None }
+    ensures exactly { ReadsExactly W.words W.spelled bytes.now }
 {
     let (count, longest) = W::sizes();
     if bytes.len() <= longest { count } else { 0 }
@@ -24,7 +24,7 @@ fn tries<W: WordSet>(bytes: &[u8]) -> usize
 
 // The word at a place, if these bytes spell it.
 fn spelled_at<W: WordSet>(place: usize, bytes: &[u8]) -> Option<W>
-    ensures { elim result [ Some w ↦ read (drop place words) spelled bytes.now ≡ Some w | None ↦ read (drop place words) spelled bytes.now ≡ read (drop (place + 1) words) spelled bytes.now ] }
+    ensures { elim result [ Some w ↦ read (drop place W.words) W.spelled bytes.now ≡ Some w | None ↦ read (drop place W.words) W.spelled bytes.now ≡ read (drop (place + 1) W.words) W.spelled bytes.now ] }
 {
     let Some(word) = W::at(place) else {
         return None;
@@ -38,8 +38,8 @@ fn spelled_at<W: WordSet>(place: usize, bytes: &[u8]) -> Option<W>
 
 // The word that these bytes spell.
 pub fn read_word<W: WordSet>(bytes: &[u8]) -> Option<W>
-    ensures answer { result ≡ read words spelled bytes.now }
-    ensures exactly { ReadsExactly words spelled bytes.now }
+    ensures answer { result ≡ read W.words W.spelled bytes.now }
+    ensures exactly { ReadsExactly W.words W.spelled bytes.now }
 {
     for place in 0..tries::<W>(bytes) {
         if let Some(word) = spelled_at(place, bytes) {
@@ -51,8 +51,8 @@ pub fn read_word<W: WordSet>(bytes: &[u8]) -> Option<W>
 
 // The part that begins at a place, and the place behind it and its comma.
 fn part_at<W: WordSet>(list: &[u8], at: usize) -> Option<(&[u8], usize)>
-    ensures told { elim result [ Some p ↦ Part (read words spelled) list.now at p.0.now p.1 | None ↦ Ended (read words spelled) list.now at ] }
-    ensures back { ListsReadBack (read words spelled) spelled }
+    ensures told { elim result [ Some p ↦ Part (read W.words W.spelled) list.now at p.0.now p.1 | None ↦ Ended (read W.words W.spelled) list.now at ] }
+    ensures back { ListsReadBack (read W.words W.spelled) W.spelled }
 {
     if at < list.len() {
         Some(piece_at(list, b',', at))
@@ -63,10 +63,10 @@ fn part_at<W: WordSet>(list: &[u8], at: usize) -> Option<(&[u8], usize)>
 
 // The first part of a comma list that is a word of the set, and the place behind it and its comma.
 pub fn next_word<W: WordSet>(list: &[u8]) -> Option<(W, usize)>
-    ensures answer { result ≡ first_known (read words spelled) list.now }
+    ensures answer { result ≡ first_known (read W.words W.spelled) list.now }
     ensures within { elim result [ Some p ↦ (0 < p.1) × (p.1 ≤ length list.now) | None ↦ Unit {0} ] }
-    ensures whole { known (read words spelled) list.now ≡ from_first (read words spelled) list.now result }
-    ensures back { ListsReadBack (read words spelled) spelled }
+    ensures whole { known (read W.words W.spelled) list.now ≡ from_first (read W.words W.spelled) list.now result }
+    ensures back { ListsReadBack (read W.words W.spelled) W.spelled }
 {
     let mut at = 0;
     'parts: loop {
