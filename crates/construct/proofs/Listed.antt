@@ -1,5 +1,5 @@
 -- The flags of an option by what it takes: all of its argument or none of it, or else a list of words. Assumes nothing.
-use Rattle.std.proofs.Common.{◌≡◌, ℕ, Bool, cond, eqb, List, [], Option, refl}
+use Rattle.std.proofs.Common.{◌≡◌, ℕ, Bool, cond, eqb, List, Option, refl}
 use Rattle.std.specs.Option.{option_to_list}
 use Rattle.flags.specs.Codes.{about}
 use Rattle.flags.specs.Meaning.{Bytes, Meaning}

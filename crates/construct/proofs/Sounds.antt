@@ -1,8 +1,8 @@
 -- The flags that options make are sound: their texts are UTF-8, and their fields lack the bytes that would end them. Assumes nothing.
-use Rattle.std.proofs.Common.{◌≡◌, ℕ, ◌<◌, Bool, true, false, cond, not, ◌&&◌, eqb, List, [], ◌∷◌, ◌++◌, map, length, Some, None, codes, Option, sym, refl, ap, ◌∙◌, arith, lit<}
+use Rattle.std.proofs.Common.{◌≡◌, ℕ, ◌<◌, Bool, true, false, cond, not, eqb, List, [], ◌∷◌, map, length, Some, None, codes, Option, sym, refl, ap, ◌∙◌, arith, lit<}
 use Rattle.std.specs.Option.{option_map, option_to_list}
 use Rattle.std.specs.List.{AllByRecursion}
-use Rattle.std.proofs.lemmas.Bool.{and_parts, and_from, eqb-true, false≢true}
+use Rattle.std.proofs.lemmas.Bool.{and_parts, and_from, eqb-true}
 use Rattle.utf8.specs.Utf8.{utf8}
 use Rattle.utf8.proofs.Laws.{utf8_cut}
 use Rattle.text.specs.Cuts.{Halves, holds, cut_first, cut_last}
@@ -12,7 +12,7 @@ use Rattle.words.specs.Spellings as word
 use Rattle.words.specs.declared.link.LibraryKind.TheVariants.{All as every}
 use Rattle.words.specs.declared.link.LinkKind.{LinkKind}
 use Rattle.words.specs.declared.link.LinkKind.TheVariants.{Dylib}
-use Rattle.flags.specs.Meaning.{Bytes, Meaning, help, cfg, library_path, link, crate_type, crate_name, edition, emit, print, out, out_dir, explain, test, target, allow, warn, force_warn, deny, forbid, cap_lints, codegen, version, verbose, extern, extern_location, sysroot, z, error_format, json, color, remap_path_prefix}
+use Rattle.flags.specs.Meaning.{Bytes, Meaning, cfg, library_path, crate_name, print, explain, target, allow, warn, force_warn, deny, forbid, codegen, extern_location, z, json, remap_path_prefix}
 use Rattle.flags.specs.Sound.{if_there, lacks, Sound}
 use Rattle.flags.specs.declared.kinds.Code.{Code}
 use Rattle.flags.specs.declared.kinds.Code.TheVariants.{Of, Debuginfo, Optimize}

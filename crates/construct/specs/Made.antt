@@ -6,7 +6,6 @@ use Rattle.flags.specs.Meaning.{Bytes, Meaning}
 use Rattle.flags.specs.declared.kinds.Code.{Code}
 use Rattle.flags.specs.declared.kinds.Code.TheVariants.{Of, Debuginfo, Optimize}
 use Rattle.flags.specs.declared.kinds.Takes.TheVariants.{Nothing, List as list, One}
-use Rattle.flags.specs.declared.kinds.Kind.{Kind}
 use Rattle.flags.specs.declared.kinds.Kind.TheVariants as kind
 use Rattle.opt.specs.Opt as opt
 

@@ -91,8 +91,8 @@ fn fields(rt: HostRuntime) {
 fn codes(rt: HostRuntime) -> Result<(), Fail> {
     assert_eq!(rt; Kind::RemapPathPrefix.number(), 30);
     assert_eq!(rt; Code::Optimize.number(), 32);
-    assert!(rt; Kind::LibrarySearchPath.home() == b"-L");
-    assert!(rt; Kind::CrateType.home() == b"--crate-type");
+    assert!(rt; Kind::LibrarySearchPath.home() == b"-L".as_slice());
+    assert!(rt; Kind::CrateType.home() == b"--crate-type".as_slice());
     match Code::Debuginfo.bare_flag() {
         Some(flag) => {
             assert!(rt;

@@ -3,7 +3,7 @@ use Rattle.std.proofs.Common.{◌≡◌, ℕ, zero, suc, ◌+◌, ◌-◌, ◌<�
 use Rattle.std.specs.Option.{option_map}
 use Rattle.std.proofs.lemmas.List.{at_drop_more, drop_more, take_more, take_rest, drop_all, length-take-le}
 use Rattle.std.proofs.lemmas.Bool.{ne_eqb, eq-eqb, eqb-true, cond-true, cond-false, or_from}
-use Rattle.text.specs.Cuts.{holds, occurrences, begins, ends, first_place, last_place, Halves, sides, with_front, cut_first, cut_last}
+use Rattle.text.specs.Cuts.{holds, occurrences, first_place, last_place, Halves, sides, with_front, cut_first, cut_last}
 
 module _ {X Y Z : Type 0} where
   pub mapped-mapped : (f : X → Y) (g : Y → Z) (o : Option X) → option_map g (option_map f o) ≡ option_map (λ x. g (f x)) o

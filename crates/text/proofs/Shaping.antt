@@ -4,7 +4,7 @@ use Rattle.std.proofs.lemmas.List.{take_rest}
 use Rattle.std.proofs.lemmas.Bool.{cond-true, cond-false, eq-eqb, ne_eqb}
 use Rattle.text.specs.Edges.{Edge}
 use Rattle.text.proofs.Edging.{edge_behind}
-use Rattle.text.specs.Shapes.{Form, long, short, form_of, behind_one, behind_two}
+use Rattle.text.specs.Shapes.{long, short, form_of}
 
 pub form_long : (xs : List ℕ) → 2 < length xs → get_or xs 0 0 ≡ 45 → get_or xs 1 0 ≡ 45 → long (take (length xs - 2) (drop 2 xs)) ≡ form_of xs
 form_long [] l e f = absurd (omega arith)

@@ -1,5 +1,5 @@
 -- Well-formed UTF-8 is what encodes scalar values: the table and the arithmetic of the encoding agree. Assumes nothing.
-use Rattle.std.proofs.Common.{◌≡◌, ℕ, ◌+◌, ◌-◌, ◌*◌, ◌/◌, ◌<◌, ◌≤◌, true, false, ◌&&◌, ◌||◌, leb, ◌≢◌, ◌⊎◌, List, [], ◌∷◌, IsUtf8, Decides, sym, refl, ◌∙◌, subst, inl, inr, ⊎_elim, arith}
+use Rattle.std.proofs.Common.{◌≡◌, ℕ, ◌+◌, ◌-◌, ◌*◌, ◌/◌, ◌<◌, ◌≤◌, true, false, leb, ◌≢◌, ◌⊎◌, List, [], ◌∷◌, IsUtf8, Decides, sym, refl, ◌∙◌, subst, inl, inr, ⊎_elim, arith}
 use lib.Utf8.{scalar, scalars, encode, encodes, next, scalar_cases}
 use Rattle.std.specs.List.{flat_map, AllByRecursion}
 use Rattle.std.proofs.lemmas.Bool.{and_parts, both_ways, cases_lt, le-ltb, leb-true, lt-ltb, or_cases}

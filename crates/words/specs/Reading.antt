@@ -1,5 +1,5 @@
 -- A set of words, read by their spellings. Assumes nothing.
-use Rattle.std.specs.Prelude.{◌≡◌, ℕ, max, Bool, true, false, cond, not, ◌&&◌, List, [], ◌∷◌, length, Some, None, Option}
+use Rattle.std.specs.Prelude.{◌≡◌, ℕ, max, Bool, false, cond, not, ◌&&◌, List, [], ◌∷◌, length, Some, None, Option}
 use Rattle.std.specs.Str.{bytes_eq}
 use Rattle.text.specs.Cuts.{holds}
 

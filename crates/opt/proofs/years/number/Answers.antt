@@ -1,4 +1,4 @@
-use Rattle.std.proofs.Common.{◌≡◌, Some, None, sym, ◌∙◌, arith}
+use Rattle.std.proofs.Common.{Some, None, sym, ◌∙◌, arith}
 use Rattle.opt.proofs.Counting.{number_more, number_all}
 use Rattle.opt.proofs.years.number.Goals as goal
 

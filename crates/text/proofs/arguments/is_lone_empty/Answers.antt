@@ -10,4 +10,3 @@ returns-in-len1 c =
 
 pub returns-in_default : goal.returns-in_default
 returns-in_default c = let told = lone_told c.args.list.now _ (lone_many c.args.list.now (search rules)) in record { lone = told.0; lost = told.1 }
-

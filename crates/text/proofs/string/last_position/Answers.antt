@@ -1,4 +1,4 @@
-use Rattle.std.proofs.Common.{take, sym, ap, ◌∙◌, le_refl, arith}
+use Rattle.std.proofs.Common.{sym, ap, le_refl, arith}
 use Rattle.std.proofs.lemmas.List.{take_all}
 use Rattle.text.specs.Cuts.{last_place}
 use Rattle.text.proofs.Cutting.{rfind_more, rfind_here, rfind_all, cut_last_sides, none_held_last}
