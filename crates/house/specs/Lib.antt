@@ -1,1 +1,2 @@
 pub mod House
+pub mod Laws

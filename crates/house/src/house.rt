@@ -2,6 +2,7 @@
 ghost use Rattle.std.specs.Prelude.{◌≡◌, true};
 ghost use Rattle.tables.specs.Tables.{nothing};
 ghost use Rattle.house.specs.House.{said, accepted, house as houseOf};
+ghost use Rattle.house.specs.Laws.{said_lawful};
 
 use flags::Code;
 use rows::{Row, check, long_code, short_code};
@@ -39,6 +40,8 @@ impl<'a> HouseTable<'a> {
 
 impl Table for HouseTable<'_> {
     ghost means = { λ t. said t.text.now t.rows.now };
+
+    ghost lawful = { λ t. said_lawful t.text.now t.rows.now t.checked };
 
     fn lookup_short(&self, byte: u8) -> Option<Code> {
         short_code(self.text, self.rows, byte)

@@ -19,8 +19,8 @@ argument_end text xs ys end place args is = record {
   front = is.front ++ xs;
   there = is.there ∙ sym (append_assoc is.front xs ys);
   within = is.within;
-  place-within = is.place-within;
-  at_end = is.at-end;
+  place_within = is.place_within;
+  at_end = is.at_end;
   later = is.later;
 }
 
@@ -54,7 +54,7 @@ module _ (text : Bytes) (at : ℕ) where
       front = take at text;
       there = take_on at (length piece) text ∙ ap (λ l. take at text ++ l) front.0;
       within = omega (arith, front.1, length-drop at text);
-      place-within = place_bounds.1;
+      place_within = place_bounds.1;
       at_end = pieces-at_end text at;
       later = pieces_later text at;
     }

@@ -58,7 +58,7 @@ module _ (o : Options) (text a : Bytes) (end place : ℕ) (args : List Bytes) (i
           by_made (Some (m, n)) e
           ∙ ap (λ l. Some (m, l)) (some_left (between (behind args)) (λ r. in_list c r ([] ∷ args)) (drop n a) (omega (arith, length-drop n a)))
           ∙ ap (λ r. Some (m, in_list c r ([] ∷ args))) rest_there
-          ∙ ap (λ l. Some (m, in_list c (take left (drop (end - left) text)) l)) (sym is.at-end ∙ ap (λ k. pieces 31 (drop k text)) split)
+          ∙ ap (λ l. Some (m, in_list c (take left (drop (end - left) text)) l)) (sym is.at_end ∙ ap (λ k. pieces 31 (drop k text)) split)
 
 -- what is left of a list: l, from a place on
 module _ (o : Options) (text : Bytes) (at left : ℕ) (in' : at ≤ length text) (c : Code) (l : Bytes) (is : l ≡ take left (drop at text)) where

@@ -2,7 +2,7 @@
 use Rattle.std.proofs.Common.{◌≡◌, ℕ, List, ◌∷◌, ◌++◌, drop, codes, sym, refl, ap, ◌∙◌, append_assoc}
 use Rattle.escape.specs.Escaped.{escaped}
 use Rattle.escape.proofs.Parts.{two_parts}
-use Rattle.words.specs.Spellings as link_word
+use Rattle.words.specs.Spellings as word
 use Rattle.words.specs.declared.link.Modifier.{Modifier}
 use Rattle.flags.specs.Meaning.{Bytes, known_modifiers}
 use Rattle.show.specs.Shown.{modifier, modifiers, further}
@@ -11,7 +11,7 @@ use Rattle.show.specs.Shown.{modifier, modifiers, further}
 abbrev pub Begins : Bytes → Modifier → ℕ → Type 0
 Begins list m behind = known_modifiers list ≡ m ∷ known_modifiers (drop behind list)
 
-module _ (out list : Bytes) (m : Modifier) (behind : ℕ) (first : Begins list m behind) {rest spelling : Bytes} (cut : rest ≡ drop behind list) (spelt : spelling ≡ link_word.modifier m) where
+module _ (out list : Bytes) (m : Modifier) (behind : ℕ) (first : Begins list m behind) {rest spelling : Bytes} (cut : rest ≡ drop behind list) (spelt : spelling ≡ word.modifier m) where
   left : known_modifiers list ≡ m ∷ known_modifiers rest
   left = first ∙ ap (λ l. m ∷ known_modifiers l) (sym cut)
 

@@ -3,7 +3,6 @@ use Rattle.std.specs.Prelude.{ℕ, List, [], ◌∷◌, ◌++◌, Some, None, co
 use Rattle.std.specs.List.{flat_map}
 use Rattle.escape.specs.Escaped.{escaped, quoted}
 use Rattle.words.specs.Spellings as word
-use Rattle.words.specs.Spellings as link_word
 use Rattle.words.specs.declared.link.Modifier.{Modifier}
 use Rattle.flags.specs.Codes.{kind_of}
 use Rattle.flags.specs.Meaning.{Bytes, Meaning, help, cfg, library_path, link, crate_type, crate_name, edition, emit, print, out, out_dir, explain, test, target, allow, warn, force_warn, deny, forbid, cap_lints, codegen, version, verbose, extern, extern_location, sysroot, z, error_format, json, color, remap_path_prefix}
@@ -57,7 +56,7 @@ spelled bs = codes " " ++ escaped bs
 
 -- the modifiers of a link, with commas between them
 abbrev pub modifier : Modifier → Bytes
-modifier m = escaped (link_word.modifier m)
+modifier m = escaped (word.modifier m)
 
 abbrev pub further : List Modifier → Bytes
 further ms = flat_map (λ m. codes "," ++ modifier m) ms
@@ -75,8 +74,8 @@ year n = codes " " ++ decimal n
 abbrev pub fields : Meaning → Bytes
 fields help = []
 fields (cfg name value) = text name ++ text_or_dash value
-fields (library_path k path) = spelled (link_word.library_kind k) ++ text path
-fields (link k ms name rename) = spelled (link_word.link_kind k) ++ (list ms ++ (text name ++ text_or_dash rename))
+fields (library_path k path) = spelled (word.library_kind k) ++ text path
+fields (link k ms name rename) = spelled (word.link_kind k) ++ (list ms ++ (text name ++ text_or_dash rename))
 fields (crate_type w) = spelled (word.crate_type w)
 fields (crate_name bs) = text bs
 fields (edition n) = year n

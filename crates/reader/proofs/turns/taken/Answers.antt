@@ -7,4 +7,4 @@ pub returns-then-place-arg : goal.returns-then-place-arg
 returns-then-place-arg c = λ o args w is less. (taken_rest o _ _ _ _ args is _ _ _ (search rules) (search rules), omega (arith, is.within))
 
 pub returns-else-place-arg : goal.returns-else-place-arg
-returns-else-place-arg c = λ o args w is less. (taken_whole o _ _ _ _ args is c.args.code (meaning c.in-Some.flag) c.in-Some.place (search rules) (search rules), is.place-within)
+returns-else-place-arg c = λ o args w is less. (taken_whole o _ _ _ _ args is c.args.code (meaning c.in-Some.flag) c.in-Some.place (search rules) (search rules), is.place_within)
