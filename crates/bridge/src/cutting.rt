@@ -23,8 +23,7 @@ pub struct Lengths {
 }
 
 // The place of the first `byte`.
-#[unsafe(no_mangle)]
-pub extern "C" fn hakechrome_find(bytes: &[u8], byte: u8) -> Found
+pub fn hakechrome_find(bytes: &[u8], byte: u8) -> Found
     ensures { result ≡ found (first_place byte bytes.now) }
 {
     match find(bytes, byte) {
@@ -37,8 +36,7 @@ pub extern "C" fn hakechrome_find(bytes: &[u8], byte: u8) -> Found
 }
 
 // How much stands before the first `byte`, and how much behind it.
-#[unsafe(no_mangle)]
-pub extern "C" fn hakechrome_split_once(bytes: &[u8], byte: u8) -> Lengths
+pub fn hakechrome_split_once(bytes: &[u8], byte: u8) -> Lengths
     ensures { result ≡ lengths (cut_first byte bytes.now) }
 {
     match split_once(bytes, byte) {
@@ -55,15 +53,13 @@ pub extern "C" fn hakechrome_split_once(bytes: &[u8], byte: u8) -> Lengths
     }
 }
 
-#[unsafe(no_mangle)]
-pub extern "C" fn hakechrome_starts_with(bytes: &[u8], byte: u8) -> bool
+pub fn hakechrome_starts_with(bytes: &[u8], byte: u8) -> bool
     ensures { result ≡ begins byte bytes.now }
 {
     starts_with(bytes, byte)
 }
 
-#[unsafe(no_mangle)]
-pub extern "C" fn hakechrome_ends_with(bytes: &[u8], byte: u8) -> bool
+pub fn hakechrome_ends_with(bytes: &[u8], byte: u8) -> bool
     ensures { result ≡ ends byte bytes.now }
 {
     ends_with(bytes, byte)
