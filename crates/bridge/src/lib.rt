@@ -25,12 +25,7 @@ pub fn hakechrome_is_utf8(bytes: &[u8]) -> bool
 }
 
 // The first flag that the option with this number gives of the argument: its line goes to the front of `line`.
-pub fn hakechrome_make(
-    heap: Global,
-    number: u8,
-    argument: &[u8],
-    line: &mut [u8],
-) -> Answer
+pub fn hakechrome_make(heap: Global, number: u8, argument: &[u8], line: &mut [u8]) -> Answer
     ensures { Answered (made_by number argument.now) result line.old line.new }
 {
     match first_of(number, argument) {

@@ -1,5 +1,5 @@
 -- A house table is lawful, since its rows are good. Assumes nothing.
-use Rattle.std.proofs.Common.{◌≡◌, ℕ, suc, ◌<◌, ◌≤◌, Bool, true, false, not, eqb, leb, List, [], ◌∷◌, length, Some, None, Option, sym, refl, ap, ◌∙◌, subst, ⊎_elim, arith}
+use Rattle.std.proofs.Common.{◌≡◌, ℕ, suc, ◌<◌, ◌≤◌, true, false, not, eqb, leb, List, [], ◌∷◌, length, Some, None, Option, sym, refl, ap, ◌∙◌, subst, ⊎_elim, arith}
 use Rattle.std.specs.List.{slice_get, AllByRecursion}
 use Rattle.std.proofs.lemmas.Bool.{and_from, both_ways, cases_Bool, cond-true, cond-false, ne_eqb, not_from_false, or_from}
 use Rattle.utf8.specs.Utf8.{utf8}
@@ -12,7 +12,7 @@ use Rattle.flags.specs.declared.kinds.Kind.{Kind}
 use Rattle.flags.specs.declared.kinds.Kind.TheVariants as kind
 use Rattle.flags.proofs.Numbered.{tells_code}
 use Rattle.tables.specs.Tables.{is_name, at_home, AtHome, Given, Lawful, by_letter, by_name}
-use Rattle.rows.specs.Good.{OwnHome, Good}
+use Rattle.rows.specs.Good.{Good}
 use Rattle.rows.specs.Rows.{number_at, code_at, home_name}
 use Rattle.rows.specs.declared.rows.Row.{Row}
 use Rattle.rows.proofs.Judged.{number_row, home_number, tells_good}

@@ -1,13 +1,13 @@
 -- The argument at a place, and its ends. Assumes nothing.
-use Rattle.std.proofs.Common.{◌≡◌, ℕ, zero, suc, ◌+◌, ◌-◌, ◌<◌, ◌≤◌, List, [], ◌∷◌, ◌++◌, length, take, drop, Some, None, Option, sym, refl, ap, ◌∙◌, subst, le_refl, arith, length-append, length-drop}
-use Rattle.std.proofs.lemmas.List.{append_assoc, append-nil, drop_at, take_at, take_all}
+use Rattle.std.proofs.Common.{◌≡◌, ℕ, zero, suc, ◌+◌, ◌<◌, ◌≤◌, List, [], ◌∷◌, ◌++◌, length, take, drop, Some, None, Option, sym, refl, ap, ◌∙◌, subst, le_refl, arith, length-append, length-drop}
+use Rattle.std.proofs.lemmas.List.{append_assoc, take_at, take_all}
 use Rattle.flags.specs.Meaning.{Bytes}
 use Rattle.flags.specs.declared.kinds.Code.{Code}
 use Rattle.text.specs.Arguments.{pieces, piece_at, place_behind}
 use Rattle.text.specs.Cuts.{Halves, cut_first}
 use Rattle.text.proofs.Cutting.{cut_first_whole}
 use Rattle.tables.specs.Tables.{Options}
-use Rattle.reading.specs.Reading.{free, long_owed, short_owed}
+use Rattle.reading.specs.Reading.{free, long_owed}
 use Rattle.reading.specs.Left.{behind, first_from, first_taken}
 use Rattle.reader.specs.Cursors.{args_behind}
 use Rattle.reader.specs.Turns.{ArgumentAt}

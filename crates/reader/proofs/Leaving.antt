@@ -1,16 +1,16 @@
 -- What is left of a text, place by place. Assumes nothing.
-use Rattle.std.proofs.Common.{◌≡◌, ℕ, suc, ◌+◌, ◌-◌, ◌<◌, ◌≤◌, Bool, true, false, cond, eqb, List, [], ◌∷◌, ◌++◌, length, get_or, take, drop, Some, None, Option, sym, refl, ap, ◌∙◌, le_refl, arith, length-append, length-drop}
+use Rattle.std.proofs.Common.{◌≡◌, ℕ, ◌+◌, List, [], ◌∷◌, ◌++◌, length, drop, Some, None, Option, sym, refl, ap, ◌∙◌, le_refl, arith, length-drop}
 use Rattle.std.specs.Option.{option_map}
-use Rattle.std.proofs.lemmas.List.{drop_all, drop-drop, drop_at, drop_more, take_all, length-take-le, drop-take}
+use Rattle.std.proofs.lemmas.List.{drop_all, drop-drop, drop_at}
 use Rattle.std.proofs.lemmas.Bool.{cond-true, cond-false, eq-eqb, ne_eqb}
 use Rattle.flags.specs.Meaning.{Bytes}
-use Rattle.text.specs.Arguments.{pieces, piece_at, place_behind, Whole}
+use Rattle.text.specs.Arguments.{pieces, piece_at, place_behind}
 use Rattle.text.specs.Cuts.{Halves, with_front, cut_first}
 use Rattle.text.proofs.Cutting.{cut_first_whole, cut_first_front, cut_first_none}
 use Rattle.text.proofs.Joining.{pieces_one, pieces_cut}
 use Rattle.tables.specs.Tables.{Options}
-use Rattle.reading.specs.Reading.{State, free, long_owed, short_owed, ended}
-use Rattle.reading.specs.Left.{Left, First, between, behind, first, first_from, first_taken}
+use Rattle.reading.specs.Reading.{free, ended}
+use Rattle.reading.specs.Left.{between, behind, first, first_from}
 use Rattle.reader.specs.Cursors.{args_behind}
 
 -- the first piece, and the pieces behind it, by the cut of what is left

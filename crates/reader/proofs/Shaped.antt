@@ -1,12 +1,12 @@
 -- An argument by its shape. Assumes nothing.
-use Rattle.std.proofs.Common.{◌≡◌, ℕ, ◌+◌, ◌-◌, ◌<◌, ◌≤◌, Bool, true, false, cond, eqb, List, [], ◌∷◌, ◌++◌, length, drop, Some, None, Option, sym, refl, ap, ◌∙◌, subst, ⊎_elim, arith}
-use Rattle.std.proofs.lemmas.Bool.{both_ways, cases_Bool, cond-true, cond-false, eqb-true, eq-eqb, ne_eqb}
+use Rattle.std.proofs.Common.{◌≡◌, ℕ, ◌+◌, Bool, true, false, cond, eqb, List, [], ◌∷◌, drop, None, sym, refl, ap, ◌∙◌, ⊎_elim, arith}
+use Rattle.std.proofs.lemmas.Bool.{both_ways, cases_Bool, cond-false, eqb-true, eq-eqb, ne_eqb}
 use Rattle.flags.specs.Meaning.{Bytes}
 use Rattle.text.specs.Arguments.{pieces, piece_at, place_behind}
-use Rattle.text.specs.Shapes.{Form, form_of, behind_one, behind_two, empty, single, double, long, short, plain}
+use Rattle.text.specs.Shapes.{Form, form_of, behind_two, empty, single, double, long, short, plain}
 use Rattle.tables.specs.Tables.{Options}
-use Rattle.reading.specs.Reading.{free, ended}
-use Rattle.reading.specs.Left.{First, between, in_cluster, first, first_from, first_free, first_long, first_letter, first_cluster}
+use Rattle.reading.specs.Reading.{free}
+use Rattle.reading.specs.Left.{between, in_cluster, first, first_from, first_free, first_letter, first_cluster}
 use Rattle.reader.specs.Cursors.{args_behind}
 use Rattle.reader.proofs.Leaving.{pieces_here, piece_on, args_on, no_piece, first_ended}
 use Rattle.reader.proofs.Turning.{skipped_first}

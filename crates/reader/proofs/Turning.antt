@@ -1,19 +1,19 @@
 -- What a turn tells, carried from one definition to the next. Assumes nothing.
-use Rattle.std.proofs.Common.{◌≡◌, ℕ, suc, ◌+◌, ◌-◌, ◌<◌, ◌≤◌, List, [], ◌∷◌, ◌++◌, length, take, drop, Some, None, Option, sym, refl, ap, ◌∙◌, subst, arith}
+use Rattle.std.proofs.Common.{◌≡◌, ℕ, ◌+◌, ◌-◌, ◌<◌, ◌≤◌, List, [], ◌∷◌, length, drop, Some, None, Option, sym, refl, ap, ◌∙◌, subst, arith}
 use Rattle.flags.specs.Codes.{about}
-use Rattle.flags.specs.Meaning.{Bytes, Meaning}
+use Rattle.flags.specs.Meaning.{Bytes}
 use Rattle.flags.specs.declared.kinds.Code.{Code}
 use Rattle.text.specs.Arguments.{pieces, piece_at, place_behind}
 use Rattle.text.specs.Cuts.{Halves, cut_first}
 use Rattle.tables.specs.Tables.{Options}
-use Rattle.reading.specs.Reading.{State, free, long_owed, short_owed}
+use Rattle.reading.specs.Reading.{State, free, long_owed}
 use Rattle.reading.specs.Left.{First, between, in_cluster, behind, first_from, first_taken, first_equipped, first_alone, first_long, first_rest, first_letter, first}
 use Rattle.reader.specs.Cursors.{args_behind, left_in, left_of}
 use Rattle.reader.specs.declared.cursor.Cursor.{Cursor}
 use Rattle.reader.specs.declared.cursor.State.{State as At}
 use Rattle.reader.specs.Turns.{Tells, ArgumentAt, weight, weight_in}
 use Rattle.reader.specs.declared.turns.Turn.{Turn}
-use Rattle.reader.proofs.Arguing.{argument_there, place_bounds, long_owed_next}
+use Rattle.reader.proofs.Arguing.{argument_there, place_bounds}
 use Rattle.reader.proofs.Leaving.{pieces_here, pieces_later, piece_on, piece_past, args_past, no_piece, args_here, first_behind}
 
 pub tells_by : (o : Options) (text : Bytes) (w : ℕ) (r : Turn) (f g : First) → f ≡ g → Tells o text w g r → Tells o text w f r

@@ -7,7 +7,7 @@ use Rattle.flags.specs.declared.kinds.Code.{Code}
 use Rattle.tables.specs.Tables.{Options}
 use Rattle.text.specs.Cuts.{Halves, cut_first}
 use Rattle.text.specs.Shapes.{Form, form_of, empty, single, double, long, short, plain}
-use Rattle.reading.specs.Reading.{State, free, long_owed, short_owed, ended, Step, equipped as equipped-step, alone, taking_rest, before, cluster_step, long_step, free_step, reading, reading_from}
+use Rattle.reading.specs.Reading.{free, long_owed, short_owed, ended, Step, equipped as equipped-step, alone, taking_rest, before, cluster_step, free_step, reading, reading_from}
 use Rattle.reading.specs.Left.{Left, between, in_cluster, in_list, coming}
 use Rattle.reading.specs.Rules.{NoOption, is_empty, is_dash, is_plain, TakesOne, Bare, Named, Unequipped, Gives, at_the_end, stops, passes, unknown_name, unknown_named, bare_name, bare_equipped, equipped, takes_next, takes_empty, cluster, no_letter_left, unknown_letter, bare_letter, takes_rest, letter_takes_next, letter_lacks_one, words_left}
 

@@ -11,7 +11,7 @@ use Rattle.text.specs.Cuts.{Halves, cut_first}
 use Rattle.text.specs.Shapes.{Form, form_of, empty, single, double, long, short, plain}
 use Rattle.reading.specs.Reading.{State, free, long_owed, short_owed, ended, Step, equipped, alone, taking_rest, cluster_step, free_step, step, reading, reading_from}
 use Rattle.reading.proofs.Agreeing.{nothing_more}
-use Rattle.reading.specs.Left.{Left, between, in_cluster, in_list, First, coming, behind, rest_left, first_made_of, first_taken, first_equipped, first_alone, first_long, first_rest, first_letter, first_cluster, first_free, first_of, first_from, first}
+use Rattle.reading.specs.Left.{Left, between, in_cluster, in_list, First, coming, behind, rest_left, first_made_of, first_taken, first_equipped, first_alone, first_rest, first_letter, first_cluster, first_free, first_of, first_from, first}
 
 module _ (o : Options) where
   -- the flags of a first one and of what it leaves

@@ -1,5 +1,5 @@
 -- What is left to read, the flags that come of it, and the first of them. Assumes nothing.
-use Rattle.std.specs.Prelude.{ℕ, List, [], ◌∷◌, ◌++◌, drop, Some, None, Option}
+use Rattle.std.specs.Prelude.{List, [], ◌∷◌, ◌++◌, drop, Some, None, Option}
 use Rattle.construct.specs.Made.{all_made, first_made}
 use Rattle.flags.specs.Codes.{about}
 use Rattle.flags.specs.Meaning.{Bytes, Meaning}

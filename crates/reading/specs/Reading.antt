@@ -5,7 +5,7 @@ use Rattle.flags.specs.Codes.{about}
 use Rattle.flags.specs.Meaning.{Bytes, Meaning}
 use Rattle.flags.specs.declared.kinds.Code.{Code}
 use Rattle.tables.specs.Tables.{Options}
-use Rattle.text.specs.Cuts.{Halves, cut_first}
+use Rattle.text.specs.Cuts.{cut_first}
 use Rattle.text.specs.Shapes.{Form, form_of, empty, single, double, long, short, plain}
 
 -- what stands between two arguments: nothing is owed, an option lacks its argument, or `--` was met

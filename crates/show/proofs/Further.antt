@@ -1,5 +1,5 @@
 -- The modifiers of a link, one after the other. Assumes nothing.
-use Rattle.std.proofs.Common.{◌≡◌, ℕ, List, ◌∷◌, ◌++◌, drop, codes, sym, refl, ap, ◌∙◌, append_assoc}
+use Rattle.std.proofs.Common.{◌≡◌, ℕ, ◌∷◌, ◌++◌, drop, codes, sym, refl, ap, ◌∙◌, append_assoc}
 use Rattle.escape.specs.Escaped.{escaped}
 use Rattle.escape.proofs.Parts.{two_parts}
 use Rattle.words.specs.Spellings as word

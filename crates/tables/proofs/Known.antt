@@ -1,5 +1,5 @@
 -- The ways to tell whether a kind is in a table. Assumes nothing.
-use Rattle.std.proofs.Common.{◌≡◌, ℕ, Bool, true, false, eqb, List, [], ◌∷◌, Some, None, Option, sym, refl, ap, ◌∙◌, subst, arith}
+use Rattle.std.proofs.Common.{◌≡◌, ℕ, Bool, true, false, eqb, [], ◌∷◌, Some, None, Option, sym, refl, ap, ◌∙◌, arith}
 use Rattle.std.proofs.lemmas.Bool.{eqb-true, eq-eqb, both_ways}
 use Rattle.text.specs.Shapes.{Form, form_of, empty, single, double, long, short, plain}
 use Rattle.flags.specs.Codes.{about, home}
@@ -8,7 +8,7 @@ use Rattle.flags.specs.declared.kinds.Code.TheVariants.{Of}
 use Rattle.flags.specs.declared.kinds.Kind.{Kind}
 use Rattle.flags.specs.declared.kinds.Kind.TheVariants as kind
 use Rattle.flags.proofs.Numbered.{tells_code}
-use Rattle.tables.specs.Tables.{Options, at_letter, at_spelling, at_home, AtHome, Given, Lawful, known, WaysAgree, by_letter, by_name}
+use Rattle.tables.specs.Tables.{Options, at_letter, at_home, Given, Lawful, WaysAgree, by_letter, by_name}
 
 abbrev tested : Kind → Option Code → Bool
 tested k o = elim o [ None ↦ false | Some c ↦ eqb (about c).number (about (Of k)).number ]

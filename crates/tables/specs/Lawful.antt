@@ -13,7 +13,7 @@ use Rattle.utf8.specs.Utf8 as text
 use Rattle.words.specs.Reading.{read}
 use Rattle.tables.specs.declared.long.LongOption.{LongOption}
 use Rattle.tables.specs.declared.long.LongOption.TheVariants as option
-use Rattle.tables.specs.Rustc.{Spelling, letters, spelling, long_options, by_letter, by_name, rustc}
+use Rattle.tables.specs.Rustc.{Spelling, letters, spelling, long_options, rustc}
 use Rattle.tables.specs.Tables.{is_name, AtHome, Given, Lawful, by_letter as given-by-letter, by_name as given-by-name}
 
 module _ {W : Type 0} (spelled : W → List ℕ) (P : W → Type 0) where

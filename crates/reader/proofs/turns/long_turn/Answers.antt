@@ -1,4 +1,4 @@
-use Rattle.std.proofs.Common.{arith, rules}
+use Rattle.std.proofs.Common.{rules}
 use Rattle.text.specs.Cuts.{Halves}
 use Rattle.reading.specs.Left.{first_from}
 use Rattle.reader.proofs.Arguing.{argument_cut, cut_shorter}

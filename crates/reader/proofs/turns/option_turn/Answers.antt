@@ -1,6 +1,5 @@
-use Rattle.std.proofs.Common.{◌+◌, [], ◌∷◌, length, refl, ap, subst, arith, rules}
+use Rattle.std.proofs.Common.{◌+◌, [], ◌∷◌, length, refl, ap, subst, rules}
 use Rattle.text.specs.Shapes.{long, empty, single, plain}
-use Rattle.reading.specs.Left.{first_from}
 use Rattle.reader.specs.Cursors.{args_behind}
 use Rattle.reader.specs.Turns.{ArgumentAt}
 use Rattle.reader.proofs.Arguing.{argument_there, argument_end, place_later, place_bounds}

@@ -1,4 +1,4 @@
-use Rattle.std.proofs.Common.{drop, arith, length-drop, rules}
+use Rattle.std.proofs.Common.{drop, arith, length-drop}
 use Rattle.reader.proofs.Clipping.{take_clipped}
 use Rattle.reader.proofs.turns.part.Goals as goal
 

@@ -1,4 +1,4 @@
-use Rattle.std.proofs.Common.{arith, rules}
+use Rattle.std.proofs.Common.{rules}
 use Rattle.reader.proofs.Turning.{skipped_first}
 use Rattle.reader.proofs.turns.skipped.Goals as goal
 

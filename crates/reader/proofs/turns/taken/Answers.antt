@@ -1,6 +1,6 @@
 use Rattle.std.proofs.Common.{arith, rules}
 use Rattle.flags.specs.Meaning.{meaning}
-use Rattle.reader.proofs.Taking.{taken_none, taken_whole, taken_rest}
+use Rattle.reader.proofs.Taking.{taken_whole, taken_rest}
 use Rattle.reader.proofs.turns.taken.Goals as goal
 
 pub returns-then-place-arg : goal.returns-then-place-arg
