@@ -1,12 +1,12 @@
 -- Going back in a text, byte by byte. Assumes nothing.
-use Rattle.std.proofs.Common.{◌≡◌, ℕ, zero, suc, ◌+◌, ◌-◌, ◌<◌, ◌≤◌, Bool, true, false, cond, eqb, ◌⊎◌, List, [], ◌∷◌, ◌++◌, length, get_or, take, drop, set, sym, refl, ap, ◌∙◌, subst, inl, inr, ⊎_elim, add-one, arith}
-use Rattle.std.proofs.lemmas.List.{length-append, length-take, length-take-le, length-set, take_more, take_all, take-set-le}
-use Rattle.std.proofs.lemmas.Bool.{eq-eqb, ne_eqb, cond-true, cond-false, cases_lt}
+use Rattle.std.proofs.Common.{◌≡◌, ℕ, zero, suc, ◌+◌, ◌-◌, ◌<◌, ◌≤◌, Bool, true, false, cond, eqb, ◌⊎◌, List, [], ◌∷◌, ◌++◌, length, get_or, take, set, sym, refl, ap, ◌∙◌, subst, inl, inr, ⊎_elim, arith}
+use Rattle.std.proofs.lemmas.List.{length-take-le, take_more, take_all, take-set-le}
+use Rattle.std.proofs.lemmas.Bool.{eq-eqb, ne_eqb, cond-false, cases_lt}
 use Rattle.text.specs.Arguments.{separator, onto_first, pieces, arguments}
 use Rattle.text.specs.Cuts.{begins, occurrences}
-use Rattle.text.proofs.Joining.{length-pieces, length-arguments}
+use Rattle.text.proofs.Joining.{length-pieces}
 use Rattle.sinks.proofs.Spaces.{one_zero_more}
-use Rattle.joined.specs.Parts.{ClearFrom, Text, Front, Shorter}
+use Rattle.joined.specs.Parts.{Text, Front, Shorter}
 use Rattle.joined.proofs.Texts.{args_some, begins_front}
 
 occurrences_push : (b : ℕ) (xs : List ℕ) (x : ℕ) → occurrences b (xs ++ x ∷ []) ≡ occurrences b xs + cond (eqb x b) 1 0

@@ -1,8 +1,8 @@
 -- What a joined sink keeps, from one state to the next. Assumes nothing.
-use Rattle.std.proofs.Common.{◌≡◌, ℕ, ◌+◌, ◌-◌, ◌<◌, ◌≤◌, Bool, true, false, cond, eqb, ◌⊎◌, List, [], ◌∷◌, ◌++◌, length, get_or, take, drop, set, replicate, Some, None, Option, sym, refl, ap, ◌∙◌, subst, inl, inr, ⊎_elim, arith}
-use Rattle.std.specs.Option.{option_map, option_to_list}
+use Rattle.std.proofs.Common.{◌≡◌, ℕ, ◌+◌, ◌-◌, ◌<◌, ◌≤◌, Bool, true, false, cond, eqb, List, [], ◌∷◌, ◌++◌, length, get_or, take, drop, set, Some, None, sym, refl, ap, ◌∙◌, subst, ⊎_elim, arith}
+use Rattle.std.specs.Option.{option_map}
 use Rattle.std.proofs.lemmas.List.{append-nil, length-append, length-set, length-take-le, take-set-le, take_more_set, drop-append-le, drop_all}
-use Rattle.std.proofs.lemmas.Bool.{cases_Bool, cases_lt, both_ways, ne_eqb, or_parts}
+use Rattle.std.proofs.lemmas.Bool.{cases_Bool, cases_lt, both_ways, ne_eqb}
 use Rattle.text.specs.Arguments.{separator, arguments, join}
 use Rattle.text.specs.Cuts.{holds, begins, occurrences}
 use Rattle.text.proofs.Edging.{holds_here}
@@ -10,7 +10,7 @@ use Rattle.text.proofs.Joining.{joins_back, length-arguments}
 use Rattle.sinks.specs.Sinks.{Held, refusal, first_bar, begun, written, finished, finish_told}
 use Rattle.sinks.proofs.Spaces.{one_zero_less, front_and_zeros}
 use Rattle.joined.specs.Joined.{rules_at, unfinished, content, filled}
-use Rattle.joined.specs.Parts.{bytes_bar, ClearFrom, Text}
+use Rattle.joined.specs.Parts.{bytes_bar, ClearFrom}
 use Rattle.joined.specs.State.{held, size, Sealed}
 use Rattle.joined.specs.declared.state.Joined.{Joined}
 use Rattle.joined.proofs.Checking.{holds-append}

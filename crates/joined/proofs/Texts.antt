@@ -1,9 +1,8 @@
 -- A text, and an argument behind it. Assumes nothing.
-use Rattle.std.proofs.Common.{◌≡◌, ℕ, zero, suc, ◌+◌, ◌-◌, ◌<◌, ◌≤◌, Bool, true, false, cond, ◌||◌, eqb, leb, ◌⊎◌, List, [], ◌∷◌, ◌++◌, length, take, drop, Some, None, Option, sym, refl, ap, ◌∙◌, subst, inl, inr, ⊎_elim, arith}
-use Rattle.std.specs.Option.{option_map}
-use Rattle.std.specs.List.{AllByRecursion as All}
+use Rattle.std.proofs.Common.{◌≡◌, ℕ, zero, suc, ◌+◌, ◌-◌, ◌<◌, ◌≤◌, Bool, true, false, cond, eqb, List, [], ◌∷◌, ◌++◌, length, take, Some, None, Option, sym, refl, ap, ◌∙◌, ⊎_elim, arith}
+use Rattle.std.specs.List.{AllByRecursion}
 use Rattle.std.proofs.ByRecursion.{All-append}
-use Rattle.std.proofs.lemmas.List.{append_assoc, append-nil, length-append, nil_from_length}
+use Rattle.std.proofs.lemmas.List.{append_assoc, length-append, nil_from_length}
 use Rattle.std.proofs.lemmas.Bool.{cases_lt, le-leb, lt-leb, eq-eqb, ne_eqb, eqb-false, or_parts}
 use Rattle.text.specs.Arguments.{separator, pieces, arguments, join, Whole}
 use Rattle.text.specs.Cuts.{holds, begins}
@@ -16,7 +15,7 @@ pub args_some : (bs : List ℕ) → 0 < length bs → arguments bs ≡ pieces se
 args_some [] h = absurd (omega arith)
 args_some (x ∷ xs) h = refl
 
-pub args_whole : (bs : List ℕ) → All (Whole separator) (arguments bs)
+pub args_whole : (bs : List ℕ) → AllByRecursion (Whole separator) (arguments bs)
 args_whole [] = tt
 args_whole (x ∷ xs) = pieces_whole separator (x ∷ xs)
 

@@ -1,5 +1,5 @@
 -- What the parts of the joined sink tell it, over the bytes of its buffer. It adds no meaning.
-use Rattle.std.specs.Prelude.{◌≡◌, ℕ, ◌+◌, ◌-◌, ◌≤◌, false, cond, List, [], ◌∷◌, ◌++◌, length, take, drop, replicate, Some, None, Option, ◌==◌, slice_set}
+use Rattle.std.specs.Prelude.{◌≡◌, ℕ, ◌+◌, ◌-◌, ◌≤◌, false, cond, List, [], ◌∷◌, length, take, drop, replicate, Some, None, Option, ◌==◌, slice_set}
 use Rattle.text.specs.Arguments.{separator, arguments}
 use Rattle.text.specs.Cuts.{holds, begins}
 use Rattle.sinks.specs.Sinks.{Bar, uncarried, full, or_else}

@@ -1,9 +1,9 @@
 -- Rows that lie back to back, and what they cut a text into. Assumes nothing.
-use Rattle.std.proofs.Common.{◌≡◌, ℕ, zero, suc, ◌+◌, ◌-◌, ◌<◌, ◌≤◌, Bool, true, false, cond, ◌&&◌, eqb, leb, ◌⊎◌, List, [], ◌∷◌, ◌++◌, length, get_or, take, drop, set, replicate, Some, None, Option, sym, refl, ap, ◌∙◌, subst, inl, inr, ⊎_elim, arith}
+use Rattle.std.proofs.Common.{◌≡◌, ℕ, zero, suc, ◌+◌, ◌-◌, ◌<◌, ◌≤◌, true, cond, eqb, List, [], ◌∷◌, ◌++◌, length, get_or, take, drop, set, replicate, Some, None, sym, refl, ap, ◌∙◌, ⊎_elim, arith}
 use Rattle.std.specs.List.{slice_get}
-use Rattle.std.proofs.lemmas.List.{append_assoc, append-nil, length-append, length-drop, length-take-le, length-replicate, length-set, nil_from_length, take_all, take_at, take-append-le, take-append-drop, take_more_set, replicate_more, drop_at, drop-append-le, drop-drop, drop-replicate, drop-set, drop-set-lt, take-set-le, replicate-append-replicate}
+use Rattle.std.proofs.lemmas.List.{length-append, length-drop, length-take-le, length-replicate, nil_from_length, take_all, take-append-le, take-append-drop, take_more_set, replicate_more, drop_at, drop-append-le, drop-drop, drop-replicate, drop-set, drop-set-lt, take-set-le, replicate-append-replicate}
 use Rattle.std.proofs.lemmas.Bool.{cases_lt, le-leb, lt-leb, eqb-true, eq-eqb, and_parts, and_from}
-use Rattle.sinks.specs.Sinks.{Bar, full, or_else, first_bar}
+use Rattle.sinks.specs.Sinks.{full, or_else, first_bar}
 use Rattle.sheet.specs.Rows.{Chained, chained, cut_up, ClearFrom, BlankFrom, Cleared}
 use Rattle.sheet.specs.Sheet.{together, places, rules_at}
 

@@ -1,10 +1,9 @@
 -- What a sheet keeps, from one state to the next. Assumes nothing.
-use Rattle.std.proofs.Common.{◌≡◌, ℕ, ◌+◌, ◌-◌, ◌<◌, ◌≤◌, Bool, true, false, cond, ◌⊎◌, List, [], ◌∷◌, ◌++◌, length, get_or, take, drop, set, replicate, Some, None, Option, sym, refl, ap, ◌∙◌, subst, inl, inr, ⊎_elim, arith}
+use Rattle.std.proofs.Common.{◌≡◌, ℕ, ◌+◌, ◌-◌, ◌<◌, ◌≤◌, Bool, true, false, cond, List, [], ◌∷◌, ◌++◌, length, get_or, take, drop, set, replicate, Some, None, sym, ap, ◌∙◌, subst, ⊎_elim, arith}
 use Rattle.std.specs.List.{slice_get}
-use Rattle.std.specs.Option.{option_map}
-use Rattle.std.proofs.lemmas.List.{append_assoc, append-nil, length-append, length-drop, length-set, length-take-le, take-append-drop, take_at, take-take, take_all, take_more, take-set-le, take_more_set, drop-append-le, drop_all, drop-take, get_or-take}
+use Rattle.std.proofs.lemmas.List.{append_assoc, append-nil, length-drop, length-set, length-take-le, take-append-drop, take_at, take-take, take_all, take_more, take-set-le, take_more_set, drop-append-le, drop_all, drop-take, get_or-take}
 use Rattle.std.proofs.lemmas.Bool.{cases_Bool}
-use Rattle.sinks.specs.Sinks.{Held, full, refusal, first_bar, begun, written, finished}
+use Rattle.sinks.specs.Sinks.{Held, full, first_bar, begun, written, finished}
 use Rattle.sinks.proofs.Spaces.{one_zero_more, one_zero_less}
 use Rattle.sheet.specs.Rows.{Chained, chained, cut_up, ClearFrom, BlankFrom, Cleared}
 use Rattle.sheet.specs.Sheet.{limit_of, together, places, rules_at, content, filled, filled_rows}

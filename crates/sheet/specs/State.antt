@@ -1,5 +1,5 @@
 -- What a sheet means. Assumes nothing.
-use Rattle.std.specs.Prelude.{◌≡◌, ℕ, cond, List, [], ◌∷◌, ◌++◌, length, take, drop, Some, None}
+use Rattle.std.specs.Prelude.{ℕ, cond, List, length, take, drop, Some, None}
 use Rattle.std.specs.Borrow.{GName}
 use Rattle.sinks.specs.Sinks.{Held}
 use Rattle.sheet.specs.Rows.{cut_up}

@@ -1,5 +1,5 @@
 -- A borrowed space whose front is in use and whose rest is zero. Assumes nothing.
-use Rattle.std.proofs.Common.{◌≡◌, ℕ, ◌+◌, ◌-◌, ◌<◌, ◌≤◌, List, [], ◌∷◌, ◌++◌, length, take, drop, set, replicate, sym, refl, ap, ◌∙◌, arith}
+use Rattle.std.proofs.Common.{◌≡◌, ℕ, ◌+◌, ◌-◌, ◌<◌, ◌≤◌, List, ◌∷◌, ◌++◌, length, take, drop, set, replicate, sym, ap, ◌∙◌, arith}
 use Rattle.std.proofs.lemmas.List.{length-set, length-take-le, take-append-drop, drop-drop, drop-set, drop-set-lt, drop-replicate, replicate-append-replicate}
 
 module _ {X : Type 0} (xs : List X) (at : ℕ) (in' : at < length xs) (zero : X) where

@@ -1,9 +1,8 @@
 -- A list of arguments that goes in one by one. Assumes nothing.
-use Rattle.std.proofs.Common.{◌≡◌, ℕ, ◌+◌, ◌<◌, ◌≤◌, List, [], ◌∷◌, ◌++◌, map, length, get_or, take, drop, Some, None, Option, sym, refl, ap, ◌∙◌, subst, arith, Bor}
+use Rattle.std.proofs.Common.{◌≡◌, ℕ, ◌+◌, ◌<◌, ◌≤◌, List, [], ◌∷◌, ◌++◌, map, length, get_or, take, drop, Some, None, Option, sym, refl, ap, ◌∙◌, arith, Bor}
 use Rattle.std.specs.Option.{option_map}
-use Rattle.std.proofs.lemmas.List.{append_assoc, append-nil, drop_more, drop_all, take_more, take_all, take_at, drop-map, map_more, take-map, length-map}
+use Rattle.std.proofs.lemmas.List.{append_assoc, append-nil, drop_more, drop_all, take_all, take_at, drop-map, map_more, take-map, length-map}
 use Rattle.text.specs.declared.refusals.Refusal.{Refusal}
-use Rattle.text.specs.declared.refusals.Refusal.TheVariants.{OutOfTurn}
 use Rattle.sinks.specs.Putting.{argument_bar, arguments_bar, put_told, put}
 use Rattle.sinks.specs.Sinks.{Held, Bar, Rules, refusal, or_else, cut_told, cut_to}
 use Rattle.sinks.specs.Steps.{so_far, rest_bar, PutUntil}

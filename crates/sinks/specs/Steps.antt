@@ -1,5 +1,5 @@
 -- What the parts of `put_arguments` tell it: a list goes in one argument after the other. It adds no meaning.
-use Rattle.std.specs.Prelude.{◌≡◌, ℕ, ◌+◌, List, ◌++◌, length, take, drop, Some, None, Option}
+use Rattle.std.specs.Prelude.{◌≡◌, ℕ, List, ◌++◌, length, take, drop, None, Option}
 use Rattle.std.specs.Option.{option_map}
 use Rattle.text.specs.declared.refusals.Refusal.{Refusal}
 use Rattle.sinks.specs.Putting.{arguments_bar}

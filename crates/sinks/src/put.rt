@@ -14,9 +14,9 @@ pub fn end_argument<S: Sink>(
     token: Token,
     outcome: Result<(), Refusal>,
 ) -> Result<(), Refusal>
-    ensures answer { verdict result ≡ end_told (verdict outcome) (rules (fixed sink.old)) (means sink.old) }
-    ensures holds { means sink.new ≡ finished (verdict result) (means sink.old) }
-    ensures stays { fixed sink.new ≡ fixed sink.old }
+    ensures answer { verdict result ≡ end_told (verdict outcome) (S.rules (S.fixed sink.old)) (S.means sink.old) }
+    ensures holds { S.means sink.new ≡ finished (verdict result) (S.means sink.old) }
+    ensures stays { S.fixed sink.new ≡ S.fixed sink.old }
 {
     match outcome {
         Ok(()) => sink.finish(token),
@@ -29,9 +29,9 @@ pub fn end_argument<S: Sink>(
 
 // Puts one argument: it goes in whole, or the sink holds what it held.
 pub fn put_argument<S: Sink>(sink: &mut S, argument: &[u8]) -> Result<(), Refusal>
-    ensures answer { verdict result ≡ put_told (rules (fixed sink.old)) (means sink.old) (argument.now ∷ []) }
-    ensures holds { means sink.new ≡ put_in (verdict result) (argument.now ∷ []) (means sink.old) }
-    ensures stays { fixed sink.new ≡ fixed sink.old }
+    ensures answer { verdict result ≡ put_told (S.rules (S.fixed sink.old)) (S.means sink.old) (argument.now ∷ []) }
+    ensures holds { S.means sink.new ≡ put_in (verdict result) (argument.now ∷ []) (S.means sink.old) }
+    ensures stays { S.fixed sink.new ≡ S.fixed sink.old }
 {
     let token = sink.begin()?;
     let outcome = sink.write(argument);
@@ -45,8 +45,8 @@ pub fn keep_or_cut<S: Sink>(
     outcome: Result<(), Refusal>,
 ) -> Result<(), Refusal>
     ensures answer { result ≡ outcome }
-    ensures holds { means sink.new ≡ kept_or_cut (verdict outcome) n (means sink.old) }
-    ensures stays { fixed sink.new ≡ fixed sink.old }
+    ensures holds { S.means sink.new ≡ kept_or_cut (verdict outcome) n (S.means sink.old) }
+    ensures stays { S.fixed sink.new ≡ S.fixed sink.old }
 {
     if outcome.is_err() {
         let _ = sink.cut(n);
@@ -56,9 +56,9 @@ pub fn keep_or_cut<S: Sink>(
 
 // Puts a list of arguments as far as they go.
 fn put_until<S: Sink>(sink: &mut S, list: &[&[u8]]) -> Result<(), Refusal>
-    requires { (means sink.old).pending ≡ None }
-    ensures until { PutUntil (rules (fixed sink.old)) (map (λ x. x.now) list.now) (verdict result) (means sink.old) (means sink.new) }
-    ensures stays { fixed sink.new ≡ fixed sink.old }
+    requires { (S.means sink.old).pending ≡ None }
+    ensures until { PutUntil (S.rules (S.fixed sink.old)) (map (λ x. x.now) list.now) (verdict result) (S.means sink.old) (S.means sink.new) }
+    ensures stays { S.fixed sink.new ≡ S.fixed sink.old }
 {
     for argument in list {
         put_argument(sink, argument)?;
@@ -68,10 +68,10 @@ fn put_until<S: Sink>(sink: &mut S, list: &[&[u8]]) -> Result<(), Refusal>
 
 // How many arguments are finished, where none is open.
 fn closed_count<S: Sink>(sink: &mut S) -> Result<usize, Refusal>
-    ensures answer { verdict result ≡ cut_told (means sink.old) }
-    ensures count { elim result [ Ok n ↦ (n ≡ length (means sink.old).list) × ((means sink.old).pending ≡ None) | Err e ↦ Unit {0} ] }
-    ensures holds { means sink.new ≡ means sink.old }
-    ensures stays { fixed sink.new ≡ fixed sink.old }
+    ensures answer { verdict result ≡ cut_told (S.means sink.old) }
+    ensures count { elim result [ Ok n ↦ (n ≡ length (S.means sink.old).list) × ((S.means sink.old).pending ≡ None) | Err e ↦ Unit {0} ] }
+    ensures holds { S.means sink.new ≡ S.means sink.old }
+    ensures stays { S.fixed sink.new ≡ S.fixed sink.old }
 {
     let n = S::count(sink);
     sink.cut(n)?;
@@ -80,9 +80,9 @@ fn closed_count<S: Sink>(sink: &mut S) -> Result<usize, Refusal>
 
 // Puts a list of arguments: all of them go in, or the sink holds what it held.
 pub fn put_arguments<S: Sink>(sink: &mut S, list: &[&[u8]]) -> Result<(), Refusal>
-    ensures answer { verdict result ≡ put_told (rules (fixed sink.old)) (means sink.old) (map (λ x. x.now) list.now) }
-    ensures holds { means sink.new ≡ put_in (verdict result) (map (λ x. x.now) list.now) (means sink.old) }
-    ensures stays { fixed sink.new ≡ fixed sink.old }
+    ensures answer { verdict result ≡ put_told (S.rules (S.fixed sink.old)) (S.means sink.old) (map (λ x. x.now) list.now) }
+    ensures holds { S.means sink.new ≡ put_in (verdict result) (map (λ x. x.now) list.now) (S.means sink.old) }
+    ensures stays { S.fixed sink.new ≡ S.fixed sink.old }
 {
     let n = closed_count(sink)?;
     let outcome = put_until(sink, list);

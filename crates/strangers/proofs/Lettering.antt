@@ -1,9 +1,9 @@
 -- What a sink for letters answers and keeps. Assumes nothing.
-use Rattle.std.proofs.Common.{◌≡◌, ℕ, ◌<◌, ◌≤◌, Bool, true, false, cond, ltb, List, [], ◌∷◌, ◌++◌, map, length, get_or, take, Some, None, Option, sym, refl, ap, ◌∙◌, arith}
+use Rattle.std.proofs.Common.{◌≡◌, ℕ, ◌<◌, ◌≤◌, Bool, true, false, cond, List, [], ◌∷◌, ◌++◌, map, length, get_or, take, Some, None, Option, sym, refl, ap, ◌∙◌, arith}
 use Rattle.std.specs.Option.{option_map, option_to_list}
-use Rattle.std.proofs.lemmas.List.{append-nil, length-map, take-map, map_push}
+use Rattle.std.proofs.lemmas.List.{append-nil, take-map, map_push}
 use Rattle.std.proofs.lemmas.Bool.{lt-ltb, le-ltb}
-use Rattle.sinks.specs.Sinks.{Held, Bar, uncarried, full, refusal, first_bar, begin_told, write_told, finish_told, cut_told, written, finished}
+use Rattle.sinks.specs.Sinks.{Held, uncarried, full, refusal, first_bar, begin_told, write_told, finish_told, cut_told, written, finished}
 use Rattle.strangers.specs.Letters.{letter, rules_at}
 
 abbrev pub at : List (List ℕ) → Option ℕ → Bool → Held

@@ -46,8 +46,8 @@ impl<S: Sink> Holder<S> {
     }
 
     fn empty(&mut self)
-        ensures holds { means self.new.sink ≡ nothing }
-        ensures stays { fixed self.new.sink ≡ fixed self.old.sink }
+        ensures holds { S.means self.new.sink ≡ nothing }
+        ensures stays { S.fixed self.new.sink ≡ S.fixed self.old.sink }
     {
         self.calls = 1;
         self.sink.empty();
@@ -80,8 +80,8 @@ pub fn lent_to_a_holder() -> u8
 }
 
 fn held_and_emptied<S: Sink>(sink: S) -> S
-    ensures holds { means result ≡ nothing }
-    ensures stays { fixed result ≡ fixed sink }
+    ensures holds { S.means result ≡ nothing }
+    ensures stays { S.fixed result ≡ S.fixed sink }
 {
     let mut holder = Holder::new(sink);
     holder.empty();

@@ -172,9 +172,9 @@ fn lists_go_in_whole(rt: HostRuntime) {
     let mut buffer = [1; 7];
     let mut sink = Joined::new(&mut buffer);
     assert_eq!(rt; number(put_arguments(&mut sink, &[b"-C", b"a=b"])), 0);
-    assert!(rt; sink.content() == b"-C\x1fa=b");
+    assert!(rt; sink.content() == b"-C\x1fa=b".as_slice());
     assert_eq!(rt; number(put_arguments(&mut sink, &[b"", b"x"])), 5);
     assert_eq!(rt; number(put_arguments(&mut sink, &[b""])), 0);
-    assert!(rt; sink.content() == b"-C\x1fa=b\x1f");
+    assert!(rt; sink.content() == b"-C\x1fa=b\x1f".as_slice());
     assert_eq!(rt; number(put_argument(&mut sink, b"")), 5);
 }

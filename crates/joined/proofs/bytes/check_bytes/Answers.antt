@@ -1,6 +1,6 @@
 use Rattle.std.proofs.Common.{◌≡◌, ℕ, arith}
 use Rattle.std.proofs.lemmas.Result.{err_from_is_err_and}
-use Rattle.joined.proofs.Checking.{some_left, one_more, stopped, all_in, all_taken}
+use Rattle.joined.proofs.Checking.{one_more, stopped, all_in, all_taken}
 use Rattle.joined.proofs.bytes.check_bytes.Goals as goal
 
 pub loop-b-preserved : goal.loop-b-preserved
@@ -8,7 +8,7 @@ loop-b-preserved c = one_more _ _ _ _ c.loop-b-test.true c.loop-b.invariant c.in
 
 pub returns-in_err-check_byte : goal.returns-in_err-check_byte
 returns-in_err-check_byte c =
-    let p = err_from_is_err_and c.from-residual.result c.from-residual.ensures.1 in
+    let p = err_from_is_err_and c.from_residual.result c.from_residual.ensures.1 in
     rw (p.1, p.2)
     record {
       answer = stopped _ _ _ _ c.loop-b-test.true c.loop-b.invariant _ c.in_err-check_byte.ensures;

@@ -1,4 +1,3 @@
-use Rattle.std.proofs.Common.{◌≡◌}
 use Rattle.joined.proofs.bytes.check_bytes.Given as goal
 use Rattle.joined.proofs.Checking.{Sofar}
 

@@ -1,4 +1,4 @@
-use Rattle.std.proofs.Common.{◌≡◌, ℕ, ◌<◌, length, take, sym, refl, ap, arith}
+use Rattle.std.proofs.Common.{◌≡◌, ℕ, take, sym, ap, arith}
 use Rattle.std.specs.Option.{option_map}
 use Rattle.std.proofs.lemmas.List.{length-take-le}
 use Rattle.sinks.specs.Sinks.{refusal}

@@ -1,4 +1,4 @@
-use Rattle.std.proofs.Common.{◌≡◌, ◌+◌, ◌-◌, ◌<◌, ◌≤◌, ◌⊎◌, length, take, sym, ap, ◌∙◌, inl, inr, arith}
+use Rattle.std.proofs.Common.{◌≡◌, ◌+◌, ◌-◌, ◌<◌, length, take, sym, ap, ◌∙◌, inl, arith}
 use Rattle.text.specs.Arguments.{separator, pieces}
 use Rattle.joined.proofs.Backing.{back_none, back_more, back_done, back_separator, back_other}
 use Rattle.joined.proofs.bytes.front.Goals as goal

@@ -1,4 +1,4 @@
-use Rattle.std.proofs.Common.{sym, refl, ap, ◌∙◌, subst}
+use Rattle.std.proofs.Common.{refl, ap, ◌∙◌}
 use Rattle.std.proofs.lemmas.Result.{err_from_is_err_and}
 use Rattle.sinks.proofs.Stepping.{none_yet, none_barred, one_more, one_passed, one_barred, stopped, all_in}
 use Rattle.sinks.proofs.put.put_until.Goals as goal
@@ -25,7 +25,7 @@ returns-in_err-put_argument g c =
     let inv = c.loop-argument.invariant in
     let told = c.in_err-put_argument.ensures in
     let in' = c.loop-argument-test.true in
-    let p = err_from_is_err_and c.from-residual.result c.from-residual.ensures.1 in
+    let p = err_from_is_err_and c.from_residual.result c.from_residual.ensures.1 in
     rw (p.1, p.2)
     record {
       until = stopped r _ _ _ _ _ _ refl (told.holds ∙ inv.0) inv.2 (one_barred r _ _ _ _ in' _ _ _ (ap s.rules inv.1) inv.0 told.answer);

@@ -1,4 +1,4 @@
-use Rattle.std.proofs.Common.{◌≡◌, ◌+◌, ◌<◌, length, sym, refl, ap, ◌∙◌, arith}
+use Rattle.std.proofs.Common.{refl, ap, ◌∙◌, arith}
 use Rattle.sinks.proofs.Laws.{written_none, written_byte, written_all}
 use Rattle.joined.proofs.States.{carried}
 use Rattle.joined.proofs.state.Joined.append.Goals as goal

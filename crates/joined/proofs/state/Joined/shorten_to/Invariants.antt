@@ -1,4 +1,4 @@
-use Rattle.std.proofs.Common.{◌≡◌, ℕ, ◌≤◌, false, take}
+use Rattle.std.proofs.Common.{◌≡◌, ◌≤◌, false, take}
 use Rattle.joined.specs.State.{lasting}
 use Rattle.joined.proofs.state.Joined.shorten_to.Given as goal
 

@@ -1,4 +1,4 @@
-use Rattle.std.proofs.Common.{◌≡◌, ◌+◌, ◌<◌, sym, refl, ap, ◌∙◌, arith}
+use Rattle.std.proofs.Common.{refl, ap, ◌∙◌, arith}
 use Rattle.sinks.proofs.Laws.{written_none, written_byte, written_all}
 use Rattle.sheet.proofs.state.Sheet.append.Goals as goal
 

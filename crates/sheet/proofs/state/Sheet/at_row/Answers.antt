@@ -2,8 +2,8 @@ use Rattle.std.proofs.Common.{◌≡◌, ◌+◌, ◌-◌, get_or, take, drop, S
 use Rattle.sheet.proofs.States.{argument_is, argument_in}
 use Rattle.sheet.proofs.state.Sheet.at_row.Goals as goal
 
-pub slice-bounds-result-end : goal.slice-bounds-result-end
-slice-bounds-result-end c = omega (arith, argument_in c.args.self.now c.args.n (0, 0) c.requires)
+pub slice_bounds-result-end : goal.slice_bounds-result-end
+slice_bounds-result-end c = omega (arith, argument_in c.args.self.now c.args.n (0, 0) c.requires)
 
 pub returns : goal.returns
 returns c =

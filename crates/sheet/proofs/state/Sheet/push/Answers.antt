@@ -3,34 +3,21 @@ use Rattle.std.proofs.lemmas.Bool.{both_ways}
 use Rattle.sheet.proofs.States as states
 use Rattle.sheet.proofs.state.Sheet.push.Goals as goal
 
-pub invariant-of-self : goal.invariant-of-self
-invariant-of-self c =
+pub invariant_of-self : goal.invariant_of-self
+invariant_of-self c =
     let s = c.args.self.now in
-    let p = c.requires in (
-      states.push_limited s p.0 p.1 c.args.byte,
-      (
-        omega arith,
-        (
-          omega arith,
-          (
-            s.few,
-            (
-              s.row,
-              (
-                states.push_zeros s p.0 p.1 c.args.byte,
-                (
-                  s.blank,
-                  (
-                    s.lined,
-                    (λ e. absurd (both_ways _ e p.0), tt),
-                  ),
-                ),
-              ),
-            ),
-          ),
-        ),
-      ),
-    )
+    let p = c.requires in
+    record {
+      limited = states.push_limited s p.0 p.1 c.args.byte;
+      within = omega arith;
+      order = omega arith;
+      few = s.few;
+      row = s.row;
+      zeros = states.push_zeros s p.0 p.1 c.args.byte;
+      blank = s.blank;
+      lined = s.lined;
+      shut = λ e. absurd (both_ways _ e p.0);
+    }
 
 pub returns : goal.returns
 returns c =

@@ -4,35 +4,22 @@ use Rattle.sheet.specs.State.{beyond}
 use Rattle.sheet.proofs.States as states
 use Rattle.sheet.proofs.state.Sheet.seal.Goals as goal
 
-pub invariant-of-self : goal.invariant-of-self
-invariant-of-self c =
+pub invariant_of-self : goal.invariant_of-self
+invariant_of-self c =
     let s = c.args.self.now in
     let p = c.span-span.result in
-    let is = c.span-span.ensures in (
-      s.limited,
-      (
-        s.within,
-        (
-          omega arith,
-          (
-            states.seal_few s c.requires p is,
-            (
-              λ e. absurd (false≢true e),
-              (
-                s.zeros,
-                (
-                  states.seal_blank s c.requires p is,
-                  (
-                    states.seal_lined s c.requires p is,
-                    ((λ _. refl), tt),
-                  ),
-                ),
-              ),
-            ),
-          ),
-        ),
-      ),
-    )
+    let is = c.span-span.ensures in
+    record {
+      limited = s.limited;
+      within = s.within;
+      order = omega arith;
+      few = states.seal_few s c.requires p is;
+      row = λ e. absurd (false≢true e);
+      zeros = s.zeros;
+      blank = states.seal_blank s c.requires p is;
+      lined = states.seal_lined s c.requires p is;
+      shut = λ _. refl;
+    }
 
 pub returns : goal.returns
 returns c =
@@ -41,5 +28,5 @@ returns c =
     let is = c.span-span.ensures in
     record {
       holds = states.seal_holds s c.requires p is;
-      stays = λ i. record { limit = s.limit; rows = states.seal_long s c.requires p is i; past = beyond s; buffer = s.bytes.ghost_name; table = s.pairs.name };
+      stays = λ i. record { limit = s.limit; rows = states.seal_long s c.requires p is i; past = beyond s; buffer = s.bytes.ghost_name; table = s.pairs.ghost_name };
     }

@@ -1,4 +1,4 @@
-use Rattle.std.proofs.Common.{◌≡◌, map, length, vec_items, vec_len, sym, refl, arith, rules}
+use Rattle.std.proofs.Common.{◌≡◌, map, length, vec_items, vec_len, refl, arith, rules}
 use Rattle.std.proofs.lemmas.List.{length-map}
 use Rattle.strangers.specs.Letters.{letter}
 use Rattle.strangers.proofs.Lettering.{begin_full, begin_none}

@@ -3,4 +3,4 @@ use Rattle.std.proofs.lemmas.List.{take_all}
 use Rattle.strangers.proofs.nothing.TakesNothingSink.cut.Goals as goal
 
 pub returns : goal.returns
-returns c = record { answer = refl; holds = λ i. record { list = sym (take_all c.args.-n [] (omega arith)) i; pending = None }; stays = refl }
+returns c = record { answer = refl; holds = λ i. record { list = sym (take_all c.args._n [] (omega arith)) i; pending = None }; stays = refl }
