@@ -1,7 +1,7 @@
 //! The functions of the proved library, behind safe wrappers.
 //!
 //! Nothing checks these declarations against the Rattle source: names, parameters and results have to be kept in step
-//! with `crates/bridge/src` by hand. A slice there is a pointer and then a length here, and a `Global` is nothing.
+//! with `crates/bridge_c/src` by hand. A slice there is a pointer and then a length here, and a `Global` is nothing.
 
 // Without the original there is nothing to hold flags against.
 #![cfg_attr(not(original), allow(dead_code))]
