@@ -31,13 +31,7 @@ pub fn count(text: &[u8]) -> usize
     if text.is_empty() {
         return 0;
     }
-    let mut n = 1;
-    for b in text {
-        if *b == SEPARATOR {
-            n += 1;
-        }
-    }
-    n
+    text.iter().filter(|b| **b == SEPARATOR).count() + 1
 }
 
 // The argument that begins at a place, and the place behind it and its separator.
@@ -49,35 +43,11 @@ pub fn argument_at(text: &[u8], at: usize) -> (&[u8], usize)
     piece_at(text, SEPARATOR, at)
 }
 
-fn is_lone_empty(list: &[&[u8]]) -> bool
-    ensures lone { Decides result (LoneEmpty (map (λ x. x.now) list.now)) }
-    ensures lost { result ≡ true → Decides false (CutsBack (map (λ x. x.now) list.now)) }
-{
-    match list {
-        [only] => only.is_empty(),
-        _ => false,
-    }
-}
-
-fn all_whole(list: &[&[u8]]) -> bool
-    ensures whole { Decides result (AllByRecursion (Whole separator) (map (λ x. x.now) list.now)) }
-    ensures back { (LoneEmpty (map (λ x. x.now) list.now) → ⊥) → Decides result (CutsBack (map (λ x. x.now) list.now)) }
-{
-    for argument in list {
-        if contains(argument, SEPARATOR) {
-            return false;
-        }
-    }
-    true
-}
-
 // Whether cutting the joined text gives these arguments back: none holds a separator, and they are not one empty argument.
 pub fn can_join(list: &[&[u8]]) -> bool
     ensures carried { Decides result (Carried (map (λ x. x.now) list.now)) }
     ensures back { Decides result (CutsBack (map (λ x. x.now) list.now)) }
 {
-    if is_lone_empty(list) {
-        return false;
-    }
-    all_whole(list)
+    let lone_empty = matches!(list, [[]]);
+    !lone_empty && list.iter().all(|argument| !contains(argument, SEPARATOR))
 }
