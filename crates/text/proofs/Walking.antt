@@ -1,5 +1,6 @@
 -- The piece at a place, from the cut of what is left there. Assumes nothing.
-use Rattle.std.proofs.Common.{◌≡◌, ℕ, suc, ◌+◌, ◌<◌, ◌≤◌, ◌⊎◌, List, [], ◌∷◌, ◌++◌, length, get_or, drop, Some, None, Option, sym, refl, ap, ◌∙◌, subst, inl, inr, add-one, arith, length-append, length-drop}
+use Rattle.std.proofs.Common.{◌≡◌, ℕ, ◌+◌, ◌<◌, ◌⊎◌, List, [], ◌∷◌, ◌++◌, length, get_or, drop, Some, None, Option, sym, refl, ap, ◌∙◌, subst, inl, inr, arith, length-append, length-drop}
+use Rattle.std.proofs.Math.Seq.{drop-append-add}
 use Rattle.std.proofs.lemmas.List.{get_or-drop, get_or_at, drop-drop}
 use Rattle.text.specs.Arguments.{pieces, piece_at, place_behind, CutAtEdges}
 use Rattle.text.specs.Cuts.{Halves, cut_first}
@@ -13,6 +14,14 @@ piece_by o rest = elim o [ Some p ↦ p.0 | None ↦ rest ]
 
 abbrev place_by : Option Halves → ℕ → ℕ → ℕ
 place_by o at n = elim o [ Some p ↦ at + length p.0 + 1 | None ↦ n ]
+
+-- the pieces of a text: up to the first b and behind it, or the whole
+module _ (b : ℕ) (bs : List ℕ) where
+  pub pieces_split : (h : Halves) → cut_first b bs ≡ Some h → pieces b bs ≡ h.0 ∷ pieces b h.1
+  pieces_split h cut = ap (pieces b) (cut_first_whole b bs h cut) ∙ pieces_cut b h.0 h.1 (cut_first_front b bs h cut)
+
+  pub pieces_uncut : cut_first b bs ≡ None → pieces b bs ≡ bs ∷ []
+  pieces_uncut cut = pieces_one b bs (cut_first_none b bs cut)
 
 module _ (b : ℕ) (bs : List ℕ) (at : ℕ) where
   module _ (h : Halves) (cut : cut_first b (drop at bs) ≡ Some h) where
@@ -36,18 +45,13 @@ module _ (b : ℕ) (bs : List ℕ) (at : ℕ) where
           behind = subst (Edge bs) place_there (edge_behind bs _ b within byte_there ascii);
         }
 
-    rest_there : drop (at + length h.0 + 1) bs ≡ h.1
-    rest_there = sym (drop-drop_more at (length h.0) bs) ∙ ap (drop (length h.0 + 1)) split ∙ drop_past h.0 b h.1
-      where
-        drop-drop_more : (m n : ℕ) (xs : List ℕ) → drop (n + 1) (drop m xs) ≡ drop (m + n + 1) xs
-        drop-drop_more m n xs = let e : m + (n + 1) ≡ m + n + 1 = omega arith in drop-drop (n + 1) m xs ∙ ap (λ k. drop k xs) e
-
-        drop_past : (front : List ℕ) (x : ℕ) (back : List ℕ) → drop (length front + 1) (front ++ x ∷ back) ≡ back
-        drop_past [] x back = refl
-        drop_past (y ∷ front) x back = rw add-one (simp add-one at (drop_past front x back))
+    rest_there : h.1 ≡ drop (place_behind b bs at) bs
+    rest_there =
+        let e : at + (length h.0 + 1) ≡ place_behind b bs at = omega (arith, place_there) in
+        sym (ap (drop (length h.0 + 1)) split ∙ drop-append-add h.0 (b ∷ h.1) 1) ∙ drop-drop (length h.0 + 1) at bs ∙ ap (λ n. drop n bs) e
 
     pieces_more : pieces b (drop at bs) ≡ piece_at b bs at ∷ pieces b (drop (place_behind b bs at) bs)
-    pieces_more = ap (pieces b) split ∙ pieces_cut b h.0 h.1 (cut_first_front b (drop at bs) h cut) ∙ (λ i. piece_there i ∷ pieces b ((sym rest_there ∙ ap (λ n. drop n bs) place_there) i))
+    pieces_more = pieces_split b (drop at bs) h cut ∙ (λ i. piece_there i ∷ pieces b (rest_there i))
 
   module _ (cut : cut_first b (drop at bs) ≡ None) where
     piece_last : drop at bs ≡ piece_at b bs at
@@ -63,7 +67,7 @@ module _ (b : ℕ) (bs : List ℕ) (at : ℕ) where
     }
 
     pieces_last : pieces b (drop at bs) ≡ piece_at b bs at ∷ []
-    pieces_last = pieces_one b (drop at bs) (cut_first_none b (drop at bs) cut) ∙ ap (λ p. p ∷ []) piece_last
+    pieces_last = pieces_uncut b (drop at bs) cut ∙ ap (λ p. p ∷ []) piece_last
 
   pub cut_at_edges : b < 128 → CutAtEdges b bs at
   cut_at_edges ascii = by_cut (cut_first b (drop at bs)) refl

@@ -1,11 +1,11 @@
 // A text as a list of arguments with 0x1f between them.
 ghost use Rattle.std.specs.Prelude.{◌≡◌, ◌+◌, ◌<◌, true, false, map, length, if◌then◌else◌, Ok, Err, Decides, nat_le};
-ghost use Rattle.std.specs.List.{AllByRecursion};
-ghost use Rattle.text.specs.Arguments.{separator, longest_text, arguments, piece_at, place_behind, CutAtEdges, Whole, LoneEmpty, Carried, JoinsBack, CutsBack};
+ghost use Rattle.std.specs.Iterator.{YieldsFirstRef, item_count};
+ghost use Rattle.text.specs.Arguments.{separator, longest_text, arguments, piece_at, place_behind, CutAtEdges, left, Carried, JoinsBack, CutsBack};
 ghost use Rattle.text.specs.Cuts.{occurrences};
 
 use super::refusals::Refusal;
-use super::string::{contains, piece_at};
+use super::string::{contains, piece_at, split_once};
 
 pub const SEPARATOR: u8 = 0x1f;
 
@@ -41,6 +41,38 @@ pub fn argument_at(text: &[u8], at: usize) -> (&[u8], usize)
     ensures edges { CutAtEdges separator text.now at }
 {
     piece_at(text, SEPARATOR, at)
+}
+
+// The arguments of a text, one behind the other.
+#[derive(Clone, Copy)]
+pub struct Arguments<'a> {
+    // the text from the next argument on, until the last is given
+    rest: Option<&'a [u8]>,
+}
+
+impl<'a> Iterator for Arguments<'a> {
+    type Item = &'a [u8];
+
+    ghost next_gives = { YieldsFirstRef left };
+
+    ghost remaining = { item_count left };
+
+    fn next(&mut self) -> Option<&'a [u8]> {
+        let rest = self.rest.take()?;
+        let Some((argument, behind)) = split_once(rest, SEPARATOR) else {
+            return Some(rest);
+        };
+        self.rest = Some(behind);
+        Some(argument)
+    }
+}
+
+pub fn arguments_of(text: &[u8]) -> Arguments<'_>
+    ensures { left result ≡ arguments text.now }
+{
+    Arguments {
+        rest: (!text.is_empty()).then_some(text),
+    }
 }
 
 // Whether cutting the joined text gives these arguments back: none holds a separator, and they are not one empty argument.

@@ -33,6 +33,23 @@ fn walks(rt: HostRuntime) {
     }
 }
 
+#[test]
+fn iterates(rt: HostRuntime) {
+    let cases: [(&[u8], &[&[u8]]); 5] = [
+        (b"", &[]),
+        (b"\x1f", &[b"", b""]),
+        (b"-h", &[b"-h"]),
+        (b"-h\x1f", &[b"-h", b""]),
+        (b"-C\x1fa=b\x1f\x1f-V", &[b"-C", b"a=b", b"", b"-V"]),
+    ];
+    for (text, list) in cases {
+        assert_eq!(rt; arguments_of(text).count(), list.len());
+        for (i, argument) in arguments_of(text).enumerate() {
+            assert!(rt; list.get(i) == Some(&argument));
+        }
+    }
+}
+
 // A cut, or `?` and `?` where there is none.
 fn halves<'a>(cut: Option<(&'a [u8], &'a [u8])>) -> (&'a [u8], &'a [u8]) {
     match cut {
@@ -82,6 +99,8 @@ fn lengths(rt: HostRuntime) -> Result<(), Fail> {
     match check_text(over.as_slice()) {
         Err(refusal) => {
             assert_eq!(rt; refusal.number(), 6);
+            let text = format!(in rt.alloc(); "{refusal}")?;
+            assert!(rt; text.as_str() == "a text has at most 65,535 bytes");
             Ok(())
         },
         Ok(()) => Err(Fail::new("taken")),
