@@ -1,5 +1,5 @@
 -- Cutting and joining undo each other. Assumes nothing.
-use Rattle.std.proofs.Common.{◌≡◌, ℕ, ◌+◌, ◌<◌, Bool, true, false, cond, eqb, not, List, [], ◌∷◌, ◌++◌, map, length, get_or, Decides, sym, refl, ap, ◌∙◌, subst, arith, length-append, Bor}
+use Rattle.std.proofs.Common.{◌≡◌, ℕ, suc, ◌+◌, ◌<◌, ◌≤◌, Bool, true, false, cond, eqb, not, List, [], ◌∷◌, ◌++◌, map, length, get_or, Decides, sym, refl, ap, ◌∙◌, subst, arith, length-append, Bor}
 use Rattle.std.specs.List.{AllByRecursion, list_all}
 use Rattle.std.proofs.lemmas.List.{get_or-map, length-map}
 use Rattle.std.proofs.lemmas.Bool.{cond-true, cond-false, eqb-true, eq-eqb, or_parts, and_parts, not-true}
@@ -79,6 +79,14 @@ arguments_whole (x ∷ xs) = pieces_whole separator (x ∷ xs)
 
 pub length-arguments : (bs : List ℕ) → 0 < length bs → length (arguments bs) ≡ occurrences separator bs + 1
 length-arguments bs h = ap length (arguments_some bs h) ∙ length-pieces separator bs
+
+occurrences-le-length : (b : ℕ) (bs : List ℕ) → occurrences b bs ≤ length bs
+occurrences-le-length b [] = omega arith
+occurrences-le-length b (x ∷ xs) = let rest = occurrences-le-length b xs in elim (eqb x b) as (λ t. cond t 1 0 + occurrences b xs ≤ suc (length xs)) [ true ↦ omega arith | false ↦ omega arith ]
+
+pub arguments_few : (bs : List ℕ) → length (arguments bs) ≤ length bs + 1
+arguments_few [] = omega arith
+arguments_few (x ∷ xs) = omega (arith, length-pieces separator (x ∷ xs), occurrences-le-length separator (x ∷ xs))
 
 pub cuts_back : (list : List (List ℕ)) → AllByRecursion (Whole separator) list → (LoneEmpty list → ⊥) → CutsBack list
 cuts_back [] all more = refl

@@ -1,5 +1,5 @@
 // A text as a list of arguments with 0x1f between them.
-ghost use Rattle.std.specs.Prelude.{◌≡◌, ◌+◌, ◌<◌, true, false, map, length, if◌then◌else◌, Ok, Err, Decides, nat_le};
+ghost use Rattle.std.specs.Prelude.{◌≡◌, ◌+◌, ◌<◌, ◌≤◌, true, false, map, length, if◌then◌else◌, Ok, Err, Decides, nat_le};
 ghost use Rattle.std.specs.Iterator.{YieldsFirstRef, item_count};
 ghost use Rattle.text.specs.Arguments.{separator, longest_text, arguments, piece_at, place_behind, CutAtEdges, left, Carried, JoinsBack, CutsBack};
 ghost use Rattle.text.specs.Cuts.{occurrences};
@@ -68,7 +68,8 @@ impl<'a> Iterator for Arguments<'a> {
 }
 
 pub fn arguments_of(text: &[u8]) -> Arguments<'_>
-    ensures { left result ≡ arguments text.now }
+    ensures items { left result ≡ arguments text.now }
+    ensures few { length (left result) ≤ length text.now + 1 }
 {
     Arguments {
         rest: (!text.is_empty()).then_some(text),
