@@ -1,87 +1,41 @@
 -- Laws of the places of a byte and of the cuts there. Assumes nothing.
-use Rattle.std.proofs.Common.{◌≡◌, ℕ, zero, suc, ◌+◌, ◌-◌, ◌<◌, ◌≤◌, Bool, true, false, cond, ◌||◌, eqb, List, [], ◌∷◌, ◌++◌, length, get_or, take, drop, is_some, Some, None, Option, sym, refl, ap, ◌∙◌, add-zero, zero-add, add-one, arith}
+use Rattle.std.proofs.Common.{◌≡◌, ℕ, zero, suc, ◌+◌, ◌<◌, ◌≢◌, Bool, true, false, cond, ◌||◌, eqb, List, [], ◌∷◌, ◌++◌, length, get_or, drop, Some, None, Option, MatchOption, IfSome, refl, ap, ◌∙◌, zero-add, arith}
 use Rattle.std.specs.Option.{option_map}
-use Rattle.std.proofs.lemmas.List.{at_drop_more, drop_more, take_more, take_rest, drop_all, length-take-le}
+use Rattle.std.proofs.lemmas.List.{at_drop_more}
 use Rattle.std.proofs.lemmas.Bool.{ne_eqb, eq-eqb, eqb-true, cond-true, cond-false, or_from}
 use Rattle.text.specs.Cuts.{holds, occurrences, first_place, last_place, Halves, sides, with_front, cut_first, cut_last}
 
-module _ {X Y Z : Type 0} where
-  pub mapped-mapped : (f : X → Y) (g : Y → Z) (o : Option X) → option_map g (option_map f o) ≡ option_map (λ x. g (f x)) o
-  mapped-mapped f g None = refl
-  mapped-mapped f g (Some x) = refl
-
--- the place of the first b, where the first i bytes are passed
-abbrev pub passed : ℕ → Option ℕ → Option ℕ
-passed i o = option_map (λ j. i + j) o
-
-pub passed_none : (o : Option ℕ) → passed 0 o ≡ o
-passed_none None = refl
-passed_none (Some j) = ap Some (zero-add j)
-
-pub passed_one : (i : ℕ) (o : Option ℕ) → passed i (option_map suc o) ≡ passed (i + 1) o
-passed_one i None = refl
-passed_one i (Some j) = let e : i + suc j ≡ i + 1 + j = omega arith in ap Some e
-
 module _ (b : ℕ) where
-  first_place_here : (x : ℕ) (xs : List ℕ) → x ≡ b → first_place b (x ∷ xs) ≡ Some 0
-  first_place_here x xs e = cond-true _ _ _ (eq-eqb x b e)
+  abbrev pub Absent : List ℕ → Type 0
+  Absent bs = (k : ℕ) → k < length bs → get_or bs k 0 ≢ b
 
-  first_place_past : (x : ℕ) (xs : List ℕ) → (x ≡ b → ⊥) → first_place b (x ∷ xs) ≡ option_map suc (first_place b xs)
-  first_place_past x xs ne = cond-false _ _ _ (ne_eqb x b ne)
+  no_first : (bs : List ℕ) → Absent bs → None ≡ first_place b bs
+  no_first [] none = refl
+  no_first (x ∷ xs) none = rw (ne_eqb x b (none 0 (omega arith)), ← no_first xs (λ k h. none (suc k) (omega arith)))
 
-  module _ (bs : List ℕ) (i : ℕ) (in' : i < length bs) (inv : first_place b bs ≡ passed i (first_place b (drop i bs))) where
-    pub find_more : (get_or bs i 0 ≡ b → ⊥) → first_place b bs ≡ passed (i + 1) (first_place b (drop (i + 1) bs))
-    find_more ne = inv ∙ ap (λ l. passed i (first_place b l)) (drop_more bs i 0 in') ∙ ap (passed i) (first_place_past _ _ ne) ∙ passed_one i _
+  first_at : (bs : List ℕ) (i : ℕ) → i < length bs → get_or bs i 0 ≡ b → ((k : ℕ) → k < i → get_or bs k 0 ≢ b) → Some i ≡ first_place b bs
+  first_at [] i in' e before = absurd (omega arith)
+  first_at (x ∷ xs) zero in' e before = rw (eq-eqb x b e)
+  first_at (x ∷ xs) (suc i) in' e before = rw (ne_eqb x b (before 0 (omega arith)), ← first_at xs i (omega arith) e (λ k h. before (suc k) (omega arith)))
 
-    pub find_here : get_or bs i 0 ≡ b → first_place b bs ≡ Some i
-    find_here e = inv ∙ ap (λ l. passed i (first_place b l)) (drop_more bs i 0 in') ∙ ap (passed i) (first_place_here _ _ e) ∙ ap Some (add-zero i)
+  no_last : (bs : List ℕ) → Absent bs → None ≡ last_place b bs
+  no_last [] none = refl
+  no_last (x ∷ xs) none = rw (← no_last xs (λ k h. none (suc k) (omega arith)), ne_eqb x b (none 0 (omega arith)))
 
-  pub find_all : (bs : List ℕ) (i : ℕ) → length bs ≤ i → first_place b bs ≡ passed i (first_place b (drop i bs)) → first_place b bs ≡ None
-  find_all bs i past inv = inv ∙ ap (λ l. passed i (first_place b l)) (drop_all i bs past)
+  last_at : (bs : List ℕ) (i : ℕ) → i < length bs → get_or bs i 0 ≡ b → ((k : ℕ) → i < k → k < length bs → get_or bs k 0 ≢ b) → Some i ≡ last_place b bs
+  last_at [] i in' e behind = absurd (omega arith)
+  last_at (x ∷ xs) zero in' e behind = rw (← no_last xs (λ k h. behind (suc k) (omega arith) (omega arith)), eq-eqb x b e)
+  last_at (x ∷ xs) (suc i) in' e behind = rw (← last_at xs i (omega arith) e (λ k f h. behind (suc k) (omega arith) (omega arith)))
 
-  last_place_push : (xs : List ℕ) (x : ℕ) → x ≡ b → last_place b (xs ++ x ∷ []) ≡ Some (length xs)
-  last_place_push [] x e = cond-true _ _ _ (eq-eqb x b e)
-  last_place_push (y ∷ ys) x e = rw (last_place_push ys x e)
+  -- a search from the front, and one from the back, by the places that it passed
+  module _ (bs : List ℕ) where
+    pub first_told : (r : Option ℕ) → MatchOption r (Absent bs) (λ i. (i < length bs) × (get_or bs i 0 ≡ b) × ((k : ℕ) → k < i → get_or bs k 0 ≢ b)) → r ≡ first_place b bs
+    first_told None told = no_first bs told
+    first_told (Some i) told = first_at bs i told.0 told.1 told.2
 
-  last_place_more : (xs : List ℕ) (x : ℕ) → (x ≡ b → ⊥) → last_place b (xs ++ x ∷ []) ≡ last_place b xs
-  last_place_more [] x ne = cond-false _ _ _ (ne_eqb x b ne)
-  last_place_more (y ∷ ys) x ne = rw (last_place_more ys x ne)
-
-  -- in the loop of `rfind` no b stands at i or behind it
-  module _ (bs : List ℕ) (i : ℕ) (some : 0 < i) (in' : i ≤ length bs) (inv : last_place b bs ≡ last_place b (take i bs)) where
-    front : take i bs ≡ take (i - 1) bs ++ get_or bs (i - 1) 0 ∷ []
-    front = let e : i ≡ i - 1 + 1 = omega arith in ap (λ n. take n bs) e ∙ take_more bs (i - 1) 0 (omega arith)
-
-    pub rfind_more : (get_or bs (i - 1) 0 ≡ b → ⊥) → last_place b bs ≡ last_place b (take (i - 1) bs)
-    rfind_more ne = inv ∙ ap (last_place b) front ∙ last_place_more (take (i - 1) bs) _ ne
-
-    pub rfind_here : get_or bs (i - 1) 0 ≡ b → last_place b bs ≡ Some (i - 1)
-    rfind_here e = inv ∙ ap (last_place b) front ∙ last_place_push (take (i - 1) bs) _ e ∙ ap Some (length-take-le (i - 1) bs (omega arith))
-
-  pub rfind_all : (bs : List ℕ) (i : ℕ) → i ≤ 0 → last_place b bs ≡ last_place b (take i bs) → last_place b bs ≡ None
-  rfind_all bs zero h inv = inv
-  rfind_all bs (suc i) h inv = absurd (omega arith)
-
-  holds_at : (t : Bool) (o : Option ℕ) (r : Bool) → is_some o ≡ r → is_some (cond t (Some 0) (option_map suc o)) ≡ (t || r)
-  holds_at true o r e = refl
-  holds_at false None r e = e
-  holds_at false (Some j) r e = e
-
-  holds_place : (bs : List ℕ) → is_some (first_place b bs) ≡ holds b bs
-  holds_place [] = refl
-  holds_place (x ∷ xs) = holds_at (eqb x b) (first_place b xs) _ (holds_place xs)
-
-  last_at : (t : Bool) (o : Option ℕ) {r : Bool} → (o ≡ None → r ≡ false) → ◌≡◌ {A = Option ℕ} (elim o [ Some i ↦ Some (suc i) | None ↦ cond t (Some 0) None ]) None → (t || r) ≡ false
-  last_at true None rest e = absurd (let z : ◌≡◌ {A = ℕ} 0 1 = cc in omega arith)
-  last_at false None rest e = rest refl
-  last_at t (Some i) rest e = absurd (let z : ◌≡◌ {A = ℕ} 0 1 = cc in omega arith)
-
-  pub none_held : (bs : List ℕ) → first_place b bs ≡ None → holds b bs ≡ false
-  none_held bs e = sym (holds_place bs) ∙ ap is_some e
-
-  pub none_held_last : (bs : List ℕ) → last_place b bs ≡ None → holds b bs ≡ false
-  none_held_last [] e = refl
-  none_held_last (x ∷ xs) e = last_at (eqb x b) (last_place b xs) (none_held_last xs) e
+    pub last_told : (r : Option ℕ) → MatchOption r (Absent bs) (λ i. (i < length bs) × (get_or bs i 0 ≡ b) × ((k : ℕ) → i < k → k < length bs → get_or bs k 0 ≢ b)) → r ≡ last_place b bs
+    last_told None told = no_last bs told
+    last_told (Some i) told = last_at bs i told.0 told.1 told.2
 
 module _ (x : ℕ) (xs : List ℕ) where
   first_sides : (t : Bool) (o : Option ℕ) → cond t (Some ([], xs)) (option_map (with_front x) (option_map (sides xs) o)) ≡ option_map (sides (x ∷ xs)) (cond t (Some 0) (option_map suc o))
@@ -101,6 +55,36 @@ cut_first_sides b (x ∷ xs) = rw (cut_first_sides b xs) (first_sides x xs (eqb 
 pub cut_last_sides : (b : ℕ) (bs : List ℕ) → cut_last b bs ≡ option_map (sides bs) (last_place b bs)
 cut_last_sides b [] = refl
 cut_last_sides b (x ∷ xs) = rw (cut_last_sides b xs) (last_sides x xs (eqb x b) (last_place b xs))
+
+-- a place is that of the byte
+abbrev pub Holds : ℕ → List ℕ → ℕ → Type 0
+Holds b bs i = (i < length bs) × (get_or bs i 0 ≡ b)
+
+abbrev last_of : Bool → Option ℕ → Option ℕ
+last_of t o = elim o [ Some i ↦ Some (suc i) | None ↦ cond t (Some 0) None ]
+
+module _ (b x : ℕ) (xs : List ℕ) where
+  first_held_at : (t : Bool) (o : Option ℕ) → eqb x b ≡ t → IfSome o (Holds b xs) → IfSome (cond t (Some 0) (option_map suc o)) (Holds b (x ∷ xs))
+  first_held_at true o e held = (omega arith, eqb-true x b e)
+  first_held_at false None e held = tt
+  first_held_at false (Some i) e held = (omega arith, held.1)
+
+  last_held_at : (t : Bool) (o : Option ℕ) → eqb x b ≡ t → IfSome o (Holds b xs) → IfSome (last_of t o) (Holds b (x ∷ xs))
+  last_held_at true None e held = (omega arith, eqb-true x b e)
+  last_held_at false None e held = tt
+  last_held_at t (Some i) e held = (omega arith, held.1)
+
+pub first_held : (b : ℕ) (bs : List ℕ) → IfSome (first_place b bs) (Holds b bs)
+first_held b [] = tt
+first_held b (x ∷ xs) = first_held_at b x xs (eqb x b) (first_place b xs) refl (first_held b xs)
+
+pub within : (b : ℕ) (bs : List ℕ) (place : Option ℕ) → IfSome place (Holds b bs) → IfSome place (λ i. i < length bs)
+within b bs None held = tt
+within b bs (Some i) held = held.0
+
+pub last_held : (b : ℕ) (bs : List ℕ) → IfSome (last_place b bs) (Holds b bs)
+last_held b [] = tt
+last_held b (x ∷ xs) = last_held_at b x xs (eqb x b) (last_place b xs) refl (last_held b xs)
 
 -- a cut leaves the whole: the front, the byte, the back
 whole_at : (b x : ℕ) (xs : List ℕ) (p : Halves) (t : Bool) (o : Option Halves) → (t ≡ true → x ≡ b) → ((q : Halves) → o ≡ Some q → xs ≡ q.0 ++ b ∷ q.1) → cond t (Some ([], xs)) (option_map (with_front x) o) ≡ Some p → x ∷ xs ≡ p.0 ++ b ∷ p.1
@@ -131,10 +115,6 @@ pub cut_first_none : (b : ℕ) (bs : List ℕ) → cut_first b bs ≡ None → h
 cut_first_none b [] e = refl
 cut_first_none b (x ∷ xs) e = none_at b x xs (eqb x b) (cut_first b xs) refl (cut_first_none b xs) e
 
--- `&bs[0..i]` and `&bs[i + 1..]` as the checker reads them
-pub slices_are_sides : (bs : List ℕ) (i : ℕ) → (take (i - 0) bs, take (length bs - (i + 1)) (drop (i + 1) bs)) ≡ sides bs i
-slices_are_sides bs i = let e : i - 0 ≡ i = omega arith in rw (e, take_rest, add-one)
-
 module _ (b : ℕ) (bs : List ℕ) (i : ℕ) (in' : i < length bs) where
   pub occurrences_here : get_or bs i 0 ≡ b → occurrences b (drop i bs) ≡ 1 + occurrences b (drop (i + 1) bs)
   occurrences_here e = at_drop_more (occurrences b) bs i 0 in' ∙ ap (λ n. n + occurrences b (drop (i + 1) bs)) (cond-true _ 1 0 (eq-eqb _ b e))
@@ -148,15 +128,14 @@ back_at b x xs p true None rest none e = let f : p.1 ≡ xs = cc in ap (holds b)
 back_at b x xs p false None rest none e = absurd (let z : ◌≡◌ {A = ℕ} 0 1 = cc in omega arith)
 back_at b x xs p t (Some q) rest none e = let f : p.1 ≡ q.1 = cc in ap (holds b) f ∙ rest q refl
 
-cut_last_place : (b : ℕ) (bs : List ℕ) → cut_last b bs ≡ None → last_place b bs ≡ None
-cut_last_place b bs e = by_place (last_place b bs) (sym (cut_last_sides b bs) ∙ e)
-  where
-    by_place : (o : Option ℕ) → option_map (sides bs) o ≡ None → o ≡ None
-    by_place None f = refl
-    by_place (Some i) f = absurd (let z : ◌≡◌ {A = ℕ} 0 1 = cc in omega arith)
+last_none_at : (b x : ℕ) (xs : List ℕ) (t : Bool) (o : Option Halves) {r : Bool} → (o ≡ None → r ≡ false) → ◌≡◌ {A = Option Halves} (elim o [ Some q ↦ Some (with_front x q) | None ↦ cond t (Some ([], xs)) None ]) None → (t || r) ≡ false
+last_none_at b x xs true None rest e = absurd (let z : ◌≡◌ {A = ℕ} 0 1 = cc in omega arith)
+last_none_at b x xs false None rest e = rest refl
+last_none_at b x xs t (Some q) rest e = absurd (let z : ◌≡◌ {A = ℕ} 0 1 = cc in omega arith)
 
 pub cut_last_none : (b : ℕ) (bs : List ℕ) → cut_last b bs ≡ None → holds b bs ≡ false
-cut_last_none b bs e = none_held_last b bs (cut_last_place b bs e)
+cut_last_none b [] e = refl
+cut_last_none b (x ∷ xs) e = last_none_at b x xs (eqb x b) (cut_last b xs) (cut_last_none b xs) e
 
 pub cut_last_back : (b : ℕ) (bs : List ℕ) (p : Halves) → cut_last b bs ≡ Some p → holds b p.1 ≡ false
 cut_last_back b [] p e = absurd (let z : ◌≡◌ {A = ℕ} 0 1 = cc in omega arith)

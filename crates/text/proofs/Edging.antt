@@ -1,12 +1,12 @@
 -- A cut beside an ASCII byte is at edges. Assumes nothing.
-use Rattle.std.proofs.Common.{◌≡◌, ℕ, zero, suc, ◌+◌, ◌-◌, ◌<◌, true, false, eqb, List, [], ◌∷◌, ◌++◌, length, get_or, take, drop, Some, None, Option, sym, ap, ◌∙◌, subst, arith, length-drop}
+use Rattle.std.proofs.Common.{◌≡◌, ℕ, zero, suc, ◌+◌, ◌-◌, ◌<◌, true, eqb, List, [], ◌∷◌, ◌++◌, length, get_or, take, drop, Some, None, Option, IfSome, sym, ap, ◌∙◌, subst, arith, length-drop}
 use Rattle.std.specs.Option.{option_map}
 use Rattle.std.proofs.lemmas.List.{drop_more, take_more, length-take-le}
 use Rattle.std.proofs.lemmas.Bool.{eq-eqb, or_left, or_right}
 use Rattle.utf8.proofs.Laws.{ascii_character}
 use Rattle.text.specs.Edges.{Edge, AtEdges, before, after}
-use Rattle.text.specs.Cuts.{holds, Halves, sides}
-use Rattle.text.specs.Found.{There, Nowhere}
+use Rattle.text.specs.Cuts.{holds, sides, cut_first, cut_last}
+use Rattle.text.proofs.Cutting.{Holds, cut_first_sides, cut_last_sides, first_held, last_held}
 
 module _ (bs : List ℕ) (i b : ℕ) (in' : i < length bs) (here : get_or bs i 0 ≡ b) (ascii : b < 128) where
   pub edge_before : Edge bs i
@@ -26,15 +26,14 @@ holds_here b [] i in' e = absurd (omega arith)
 holds_here b (x ∷ xs) zero in' e = sym (or_left _ _ (eq-eqb x b e))
 holds_here b (x ∷ xs) (suc i) in' e = sym (or_right (eqb x b) _ (sym (holds_here b xs i (omega arith) e)))
 
--- what a search says: at the place of the byte, and where there is none
-module _ (b : ℕ) (bs : List ℕ) (place : Option ℕ) (cut : Option Halves) (is : cut ≡ option_map (sides bs) place) where
-  pub there : (i : ℕ) → i < length bs → get_or bs i 0 ≡ b → place ≡ Some i → There place cut b bs i
-  there i in' here e = record {
-    placed = sym e;
-    halves = sym (is ∙ ap (option_map (sides bs)) e);
-    held = holds_here b bs i in' here;
-    edges = λ ascii. subst (AtEdges bs) (sym (is ∙ ap (option_map (sides bs)) e)) (cut_at_edges bs i b in' here ascii);
-  }
+-- a cut at a place of the byte
+module _ (b : ℕ) (bs : List ℕ) where
+  edges_at : (place : Option ℕ) → IfSome place (Holds b bs) → b < 128 → AtEdges bs (option_map (sides bs) place)
+  edges_at None held ascii = tt
+  edges_at (Some i) held ascii = cut_at_edges bs i b held.0 held.1 ascii
 
-  pub nowhere : place ≡ None → holds b bs ≡ false → Nowhere place cut b bs
-  nowhere e none = record { placed = sym e; halves = sym (is ∙ ap (option_map (sides bs)) e); missing = sym none; edges = subst (AtEdges bs) (sym (is ∙ ap (option_map (sides bs)) e)) tt }
+  pub first_edges : b < 128 → AtEdges bs (cut_first b bs)
+  first_edges ascii = rw (cut_first_sides b bs) (edges_at _ (first_held b bs) ascii)
+
+  pub last_edges : b < 128 → AtEdges bs (cut_last b bs)
+  last_edges ascii = rw (cut_last_sides b bs) (edges_at _ (last_held b bs) ascii)

@@ -1,11 +1,11 @@
 -- Cutting and joining undo each other. Assumes nothing.
-use Rattle.std.proofs.Common.{◌≡◌, ℕ, ◌+◌, ◌<◌, ◌≤◌, Bool, true, false, cond, eqb, List, [], ◌∷◌, ◌++◌, map, length, get_or, take, Decides, sym, refl, ap, ◌∙◌, subst, arith, length-append, Bor}
-use Rattle.std.specs.List.{AllByRecursion}
-use Rattle.std.proofs.ByRecursion.{All-map, All-get_or}
-use Rattle.std.proofs.lemmas.List.{take_all, get_or-map, length-map, nil_from_length}
-use Rattle.std.proofs.lemmas.Bool.{cond-true, cond-false, eqb-true, eq-eqb, or_parts, false≢true, both_ways}
+use Rattle.std.proofs.Common.{◌≡◌, ℕ, suc, ◌+◌, ◌<◌, ◌≤◌, Bool, true, false, cond, eqb, not, List, [], ◌∷◌, ◌++◌, map, length, get_or, Decides, sym, refl, ap, ◌∙◌, subst, arith, length-append, Bor}
+use Rattle.std.specs.List.{AllByRecursion, list_all}
+use Rattle.std.proofs.lemmas.List.{get_or-map, length-map}
+use Rattle.std.proofs.lemmas.Bool.{cond-true, cond-false, eqb-true, eq-eqb, or_parts, and_parts, not-true}
+use Rattle.std.proofs.lemmas.Bool.Decides.{Decides-at}
 use Rattle.text.specs.Cuts.{holds, occurrences}
-use Rattle.text.specs.Arguments.{separator, onto_first, pieces, arguments, joined_by, join, Whole, LoneEmpty, JoinsBack, CutsBack}
+use Rattle.text.specs.Arguments.{separator, onto_first, pieces, arguments, joined_by, join, Whole, LoneEmpty, Carried, JoinsBack, CutsBack}
 
 module _ (b : ℕ) where
   length_onto : (x : ℕ) (ps : List (List ℕ)) → 0 < length ps → length (onto_first x ps) ≡ length ps
@@ -80,6 +80,14 @@ arguments_whole (x ∷ xs) = pieces_whole separator (x ∷ xs)
 pub length-arguments : (bs : List ℕ) → 0 < length bs → length (arguments bs) ≡ occurrences separator bs + 1
 length-arguments bs h = ap length (arguments_some bs h) ∙ length-pieces separator bs
 
+occurrences-le-length : (b : ℕ) (bs : List ℕ) → occurrences b bs ≤ length bs
+occurrences-le-length b [] = omega arith
+occurrences-le-length b (x ∷ xs) = let rest = occurrences-le-length b xs in elim (eqb x b) as (λ t. cond t 1 0 + occurrences b xs ≤ suc (length xs)) [ true ↦ omega arith | false ↦ omega arith ]
+
+pub arguments_few : (bs : List ℕ) → length (arguments bs) ≤ length bs + 1
+arguments_few [] = omega arith
+arguments_few (x ∷ xs) = omega (arith, length-pieces separator (x ∷ xs), occurrences-le-length separator (x ∷ xs))
+
 pub cuts_back : (list : List (List ℕ)) → AllByRecursion (Whole separator) list → (LoneEmpty list → ⊥) → CutsBack list
 cuts_back [] all more = refl
 cuts_back ([] ∷ []) all more = absurd (more refl)
@@ -90,38 +98,22 @@ cuts_back (a ∷ c ∷ cs) all more =
 pub cuts_back_whole : (list : List (List ℕ)) → CutsBack list → AllByRecursion (Whole separator) list
 cuts_back_whole list e = subst (AllByRecursion (Whole separator)) e (arguments_whole (join list))
 
-pub cuts_back_more : (list : List (List ℕ)) → CutsBack list → LoneEmpty list → ⊥
-cuts_back_more list e lone = let z : ◌≡◌ {A = ℕ} 0 1 = ap (λ l. length (arguments (join l))) (sym lone) ∙ ap length e ∙ ap length lone in omega arith
-
--- the two tests of `can_join`
-pub lone_cannot : (list : List (List ℕ)) → LoneEmpty list → Decides false (CutsBack list)
-lone_cannot list lone = (λ e. absurd (false≢true e), λ back. absurd (cuts_back_more list back lone))
-
 module _ (xs : List (Bor (List ℕ))) where
-  abbrev pub WholeTo : ℕ → Type 0
-  WholeTo i = AllByRecursion (λ x. Whole separator x.now) (take i xs)
+  pub lone_length : LoneEmpty (map (λ x. x.now) xs) → length xs ≡ 1
+  lone_length lone = sym (length-map xs (λ x. x.now)) ∙ ap length lone
 
-  pub whole_all : (i : ℕ) → length xs ≤ i → WholeTo i → AllByRecursion (Whole separator) (map (λ x. x.now) xs)
-  whole_all i past inv = All-map (Whole separator) (λ x. x.now) xs (subst (AllByRecursion (λ x. Whole separator x.now)) (take_all i xs past) inv)
+  pub lone_first : LoneEmpty (map (λ x. x.now) xs) → (d : Bor (List ℕ)) → length (get_or xs 0 d).now ≡ 0
+  lone_first lone d = ap length (sym (get_or-map (λ x. x.now) xs 0 d d.now (omega (arith, lone_length lone))) ∙ ap (λ l. get_or l 0 d.now) lone)
 
-  pub not_whole : (i : ℕ) (d : Bor (List ℕ)) → i < length xs → holds separator (get_or xs i d).now ≡ true → AllByRecursion (Whole separator) (map (λ x. x.now) xs) → ⊥
-  not_whole i d in' e all =
-      let here : Whole separator (get_or (map (λ x. x.now) xs) i d.now) = All-get_or (Whole separator) (map (λ x. x.now) xs) i d.now (simp length-map (omega arith)) all in
-      both_ways _ (ap (holds separator) (sym (get_or-map (λ x. x.now) xs i d d.now in')) ∙ here) e
-
-  pub whole_back : (r : Bool) → Decides r (AllByRecursion (Whole separator) (map (λ x. x.now) xs)) → (LoneEmpty (map (λ x. x.now) xs) → ⊥) → Decides r (CutsBack (map (λ x. x.now) xs))
-  whole_back r told more = (λ e. cuts_back _ (told.0 e) more, λ back. told.1 (cuts_back_whole _ back))
-
-  pub lone_one : (d : Bor (List ℕ)) → length xs ≡ 1 → Decides (eqb (length (get_or xs 0 d).now) 0) (LoneEmpty (map (λ x. x.now) xs))
-  lone_one d one = lone_at xs one
+  pub whole_told : Decides (list_all (λ x. not (holds separator x.now)) xs) (AllByRecursion (Whole separator) (map (λ x. x.now) xs))
+  whole_told = told_at xs
     where
-      lone_at : (ys : List (Bor (List ℕ))) → length ys ≡ 1 → Decides (eqb (length (get_or ys 0 d).now) 0) (LoneEmpty (map (λ x. x.now) ys))
-      lone_at [] e = absurd (omega arith)
-      lone_at (y ∷ []) e = (λ t. ap (λ p. p ∷ []) (nil_from_length y.now (eqb-true _ 0 t)), λ lone. eq-eqb _ 0 (ap (λ l. length (get_or l 0 [])) lone))
-      lone_at (y ∷ z ∷ ys) e = absurd (omega arith)
+      told_at : (ys : List (Bor (List ℕ))) → Decides (list_all (λ x. not (holds separator x.now)) ys) (AllByRecursion (Whole separator) (map (λ x. x.now) ys))
+      told_at [] = (λ _. tt, λ _. refl)
+      told_at (y ∷ ys) = (λ t. let p = and_parts (not (holds separator y.now)) _ t in (not-true _ p.0, (told_at ys).0 p.1), λ all. rw (all.0, (told_at ys).1 all.1))
 
-  pub lone_many : (length xs ≡ 1 → ⊥) → Decides false (LoneEmpty (map (λ x. x.now) xs))
-  lone_many many = (λ e. absurd (false≢true e), λ lone. absurd (many (sym (length-map xs (λ x. x.now)) ∙ ap length lone)))
-
-  pub lone_told : (r : Bool) → Decides r (LoneEmpty (map (λ x. x.now) xs)) → Decides r (LoneEmpty (map (λ x. x.now) xs)) × (r ≡ true → Decides false (CutsBack (map (λ x. x.now) xs)))
-  lone_told r lone = (lone, λ e. lone_cannot (map (λ x. x.now) xs) (lone.0 e))
+  -- the two answers of `can_join`, where the list is not one empty argument
+  pub joins_told : (r : Bool) → r ≡ list_all (λ x. not (holds separator x.now)) xs → (LoneEmpty (map (λ x. x.now) xs) → ⊥) → Decides r (Carried (map (λ x. x.now) xs)) × Decides r (CutsBack (map (λ x. x.now) xs))
+  joins_told r is more =
+      let told = Decides-at r _ is whole_told in
+      ((λ e. (told.0 e, more), λ carried. told.1 carried.0), (λ e. cuts_back _ (told.0 e) more, λ back. told.1 (cuts_back_whole _ back)))

@@ -3,6 +3,7 @@ use Rattle.std.specs.Prelude.{◌≡◌, ℕ, ◌+◌, ◌≤◌, false, cond, L
 use Rattle.std.specs.List.{AllByRecursion}
 use Rattle.text.specs.Cuts.{holds, cut_first}
 use Rattle.text.specs.Edges.{Edge}
+use Rattle.text.specs.declared.arguments.Arguments.{Arguments}
 
 -- 0x1f, the unit separator of ASCII
 abbrev pub separator : ℕ
@@ -25,6 +26,10 @@ pieces b (x ∷ xs) = cond (x == b) ([] ∷ pieces b xs) (onto_first x (pieces b
 abbrev pub arguments : List ℕ → List (List ℕ)
 arguments [] = []
 arguments (x ∷ xs) = pieces separator (x ∷ xs)
+
+-- the arguments that an iterator has not given yet
+abbrev pub left : Arguments → List (List ℕ)
+left i = elim i.rest [ Some rest ↦ pieces separator rest.now | None ↦ [] ]
 
 -- the parts with b between each two
 abbrev pub joined_by : ℕ → List (List ℕ) → List ℕ

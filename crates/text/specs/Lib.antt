@@ -1,7 +1,6 @@
 pub mod Arguments
 pub mod Cuts
 pub mod Edges
-pub mod Found
 pub mod Refusals
 pub mod Shapes
 pub mod Texts

@@ -1,11 +1,11 @@
 // A text as a list of arguments with 0x1f between them.
-ghost use Rattle.std.specs.Prelude.{◌≡◌, ◌+◌, ◌<◌, true, false, map, length, if◌then◌else◌, Ok, Err, Decides, nat_le};
-ghost use Rattle.std.specs.List.{AllByRecursion};
-ghost use Rattle.text.specs.Arguments.{separator, longest_text, arguments, piece_at, place_behind, CutAtEdges, Whole, LoneEmpty, Carried, JoinsBack, CutsBack};
+ghost use Rattle.std.specs.Prelude.{◌≡◌, ◌+◌, ◌<◌, ◌≤◌, true, false, map, length, if◌then◌else◌, Ok, Err, Decides, nat_le};
+ghost use Rattle.std.specs.Iterator.{YieldsFirstRef, item_count};
+ghost use Rattle.text.specs.Arguments.{separator, longest_text, arguments, piece_at, place_behind, CutAtEdges, left, Carried, JoinsBack, CutsBack};
 ghost use Rattle.text.specs.Cuts.{occurrences};
 
 use super::refusals::Refusal;
-use super::string::{contains, piece_at};
+use super::string::{contains, piece_at, split_once};
 
 pub const SEPARATOR: u8 = 0x1f;
 
@@ -31,13 +31,7 @@ pub fn count(text: &[u8]) -> usize
     if text.is_empty() {
         return 0;
     }
-    let mut n = 1;
-    for b in text {
-        if *b == SEPARATOR {
-            n += 1;
-        }
-    }
-    n
+    text.iter().filter(|b| **b == SEPARATOR).count() + 1
 }
 
 // The argument that begins at a place, and the place behind it and its separator.
@@ -49,26 +43,37 @@ pub fn argument_at(text: &[u8], at: usize) -> (&[u8], usize)
     piece_at(text, SEPARATOR, at)
 }
 
-fn is_lone_empty(list: &[&[u8]]) -> bool
-    ensures lone { Decides result (LoneEmpty (map (λ x. x.now) list.now)) }
-    ensures lost { result ≡ true → Decides false (CutsBack (map (λ x. x.now) list.now)) }
-{
-    match list {
-        [only] => only.is_empty(),
-        _ => false,
+// The arguments of a text, one behind the other.
+#[derive(Clone, Copy)]
+pub struct Arguments<'a> {
+    // the text from the next argument on, until the last is given
+    rest: Option<&'a [u8]>,
+}
+
+impl<'a> Iterator for Arguments<'a> {
+    type Item = &'a [u8];
+
+    ghost next_gives = { YieldsFirstRef left };
+
+    ghost remaining = { item_count left };
+
+    fn next(&mut self) -> Option<&'a [u8]> {
+        let rest = self.rest.take()?;
+        let Some((argument, behind)) = split_once(rest, SEPARATOR) else {
+            return Some(rest);
+        };
+        self.rest = Some(behind);
+        Some(argument)
     }
 }
 
-fn all_whole(list: &[&[u8]]) -> bool
-    ensures whole { Decides result (AllByRecursion (Whole separator) (map (λ x. x.now) list.now)) }
-    ensures back { (LoneEmpty (map (λ x. x.now) list.now) → ⊥) → Decides result (CutsBack (map (λ x. x.now) list.now)) }
+pub fn arguments_of(text: &[u8]) -> Arguments<'_>
+    ensures items { left result ≡ arguments text.now }
+    ensures few { length (left result) ≤ length text.now + 1 }
 {
-    for argument in list {
-        if contains(argument, SEPARATOR) {
-            return false;
-        }
+    Arguments {
+        rest: (!text.is_empty()).then_some(text),
     }
-    true
 }
 
 // Whether cutting the joined text gives these arguments back: none holds a separator, and they are not one empty argument.
@@ -76,8 +81,6 @@ pub fn can_join(list: &[&[u8]]) -> bool
     ensures carried { Decides result (Carried (map (λ x. x.now) list.now)) }
     ensures back { Decides result (CutsBack (map (λ x. x.now) list.now)) }
 {
-    if is_lone_empty(list) {
-        return false;
-    }
-    all_whole(list)
+    let lone_empty = matches!(list, [[]]);
+    !lone_empty && list.iter().all(|argument| !contains(argument, SEPARATOR))
 }

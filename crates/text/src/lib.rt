@@ -6,7 +6,9 @@ mod refusals;
 mod shapes;
 mod string;
 
-pub use arguments::{LONGEST_TEXT, SEPARATOR, argument_at, can_join, check_text, count};
+pub use arguments::{
+    Arguments, LONGEST_TEXT, SEPARATOR, argument_at, arguments_of, can_join, check_text, count,
+};
 pub use refusals::Refusal;
 pub use shapes::{Shape, shape_of};
 pub use string::{

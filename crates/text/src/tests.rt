@@ -33,28 +33,41 @@ fn walks(rt: HostRuntime) {
     }
 }
 
-// A cut, or `?` and `?` where there is none.
-fn halves<'a>(cut: Option<(&'a [u8], &'a [u8])>) -> (&'a [u8], &'a [u8]) {
-    match cut {
-        Some(p) => p,
-        None => (b"?", b"?"),
+#[test]
+fn iterates(rt: HostRuntime) {
+    let cases: [(&[u8], &[&[u8]]); 5] = [
+        (b"", &[]),
+        (b"\x1f", &[b"", b""]),
+        (b"-h", &[b"-h"]),
+        (b"-h\x1f", &[b"-h", b""]),
+        (b"-C\x1fa=b\x1f\x1f-V", &[b"-C", b"a=b", b"", b"-V"]),
+    ];
+    for (text, list) in cases {
+        assert_eq!(rt; arguments_of(text).count(), list.len());
+        for (i, argument) in arguments_of(text).enumerate() {
+            assert!(rt; list.get(i) == Some(&argument));
+        }
     }
 }
 
+type Cut<'a> = Option<(&'a [u8], &'a [u8])>;
+
 #[test]
 fn cuts(rt: HostRuntime) {
-    let cases: [(&[u8], &[u8], &[u8], &[u8], &[u8]); 5] = [
-        (b"a=b=c", b"a", b"b=c", b"a=b", b"c"),
-        (b"=", b"", b"", b"", b""),
-        (b"abc", b"?", b"?", b"?", b"?"),
-        (b"", b"?", b"?", b"?", b"?"),
-        (b"\xff=\xff", b"\xff", b"\xff", b"\xff", b"\xff"),
+    let cases: [(&[u8], Cut<'_>, Cut<'_>); 5] = [
+        (b"a=b=c", Some((b"a", b"b=c")), Some((b"a=b", b"c"))),
+        (b"=", Some((b"", b"")), Some((b"", b""))),
+        (b"abc", None, None),
+        (b"", None, None),
+        (
+            b"\xff=\xff",
+            Some((b"\xff", b"\xff")),
+            Some((b"\xff", b"\xff")),
+        ),
     ];
-    for (bytes, front, back, last_front, last_back) in cases {
-        let (f, b) = halves(split_once(bytes, b'='));
-        assert!(rt; f == front && b == back);
-        let (f, b) = halves(rsplit_once(bytes, b'='));
-        assert!(rt; f == last_front && b == last_back);
+    for (bytes, first, last) in cases {
+        assert!(rt; split_once(bytes, b'=') == first);
+        assert!(rt; rsplit_once(bytes, b'=') == last);
     }
 }
 
@@ -79,13 +92,16 @@ fn lengths(rt: HostRuntime) -> Result<(), Fail> {
     let most = vec![in rt.alloc(); b'-'; LONGEST_TEXT]?;
     assert!(rt; check_text(most.as_slice()).is_ok());
     let over = vec![in rt.alloc(); b'-'; LONGEST_TEXT + 1]?;
-    match check_text(over.as_slice()) {
-        Err(refusal) => {
-            assert_eq!(rt; refusal.number(), 6);
-            Ok(())
-        },
-        Ok(()) => Err(Fail::new("taken")),
-    }
+    assert!(rt; check_text(over.as_slice()) == Err(Refusal::TextTooLong));
+    Ok(())
+}
+
+#[test]
+fn refusals(rt: HostRuntime) -> Result<(), Fail> {
+    assert_eq!(rt; Refusal::TextTooLong.number(), 6);
+    let text = format!(in rt.alloc(); "{}", Refusal::TextTooLong)?;
+    assert!(rt; text.as_str() == "a text has at most 65,535 bytes");
+    Ok(())
 }
 
 #[test]
@@ -97,29 +113,18 @@ fn joins(rt: HostRuntime) {
     assert!(rt; !can_join(&[b"-C", b"a\x1fb"]));
 }
 
-fn name_of(shape: Shape<'_>) -> &[u8] {
-    match shape {
-        Shape::Empty => b"empty",
-        Shape::Dash => b"dash",
-        Shape::DoubleDash => b"double",
-        Shape::Long(name) => name,
-        Shape::Short(letters) => letters,
-        Shape::Plain => b"plain",
-    }
-}
-
 #[test]
 fn forms(rt: HostRuntime) {
-    let cases: [(&[u8], &[u8]); 7] = [
-        (b"", b"empty"),
-        (b"-", b"dash"),
-        (b"--", b"double"),
-        (b"--cfg", b"cfg"),
-        (b"---", b"-"),
-        (b"-gV", b"gV"),
-        (b"a-b", b"plain"),
+    let cases: [(&[u8], Shape<'_>); 7] = [
+        (b"", Shape::Empty),
+        (b"-", Shape::Dash),
+        (b"--", Shape::DoubleDash),
+        (b"--cfg", Shape::Long(b"cfg")),
+        (b"---", Shape::Long(b"-")),
+        (b"-gV", Shape::Short(b"gV")),
+        (b"a-b", Shape::Plain),
     ];
-    for (argument, name) in cases {
-        assert!(rt; name_of(shape_of(argument)) == name);
+    for (argument, shape) in cases {
+        assert!(rt; shape_of(argument) == shape);
     }
 }
