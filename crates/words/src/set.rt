@@ -3,12 +3,17 @@ ghost use Rattle.std.specs.Prelude.{◌≡◌, ℕ, true, List, length, Some};
 ghost use Rattle.std.specs.List.{slice_get};
 ghost use Rattle.words.specs.Reading.{read, longest, clean};
 
-pub trait WordSet: Copy {
+pub trait WordSet: Copy + 'static {
     // how many words there are
     const COUNT: usize;
 
     // the length of the longest spelling
     const LONGEST: usize;
+
+    // both constants, as clauses name them
+    ghost COUNT: { ℕ };
+
+    ghost LONGEST: { ℕ };
 
     // the words in their order
     ghost words: { List Self };
@@ -16,17 +21,23 @@ pub trait WordSet: Copy {
     // the bytes that a word is written as
     ghost spelled: { Self → List ℕ };
 
-    // Both constants: clauses cannot name them, so this says what they are.
-    fn sizes() -> (usize, usize)
-        ensures count { result.0 ≡ length words }
-        ensures longest { result.1 ≡ longest words spelled };
+    // The words in their order.
+    fn all() -> &'static [Self]
+        ensures { result.now ≡ words };
+
+    fn spelling(self) -> &'static [u8]
+        ensures { result.now ≡ spelled self };
 
     // The word at a place in the set's order.
-    fn at(place: usize) -> Option<Self>
-        ensures { result ≡ slice_get words place };
+    final fn at(place: usize) -> Option<Self>
+        ensures { result ≡ slice_get words place }
+    {
+        Self::all().get(place).copied()
+    }
 
-    fn spelling<'a>(self) -> &'a [u8]
-        ensures { result.now ≡ spelled self };
+    ghost counted: { COUNT ≡ length words };
+
+    ghost bounded: { LONGEST ≡ longest words spelled };
 
     // A spelling reads as its word, and as no other.
     ghost reads: { (w : Self) → read words spelled (spelled w) ≡ Some w };
