@@ -45,8 +45,8 @@ impl WordSet for LibraryKind {
 
     ghost cleans = { Prim.search rules };
 
-    fn all() -> &'static [Self] {
-        LIBRARY_KINDS
+    fn at(place: usize) -> Option<Self> {
+        LIBRARY_KINDS.get(place).copied()
     }
 
     fn spelling(self) -> &'static [u8] {
@@ -91,8 +91,8 @@ impl WordSet for LinkKind {
 
     ghost cleans = { Prim.search rules };
 
-    fn all() -> &'static [Self] {
-        LINK_KINDS
+    fn at(place: usize) -> Option<Self> {
+        LINK_KINDS.get(place).copied()
     }
 
     fn spelling(self) -> &'static [u8] {
@@ -134,8 +134,8 @@ impl WordSet for Sign {
 
     ghost cleans = { Prim.search rules };
 
-    fn all() -> &'static [Self] {
-        SIGNS
+    fn at(place: usize) -> Option<Self> {
+        SIGNS.get(place).copied()
     }
 
     fn spelling(self) -> &'static [u8] {
@@ -183,8 +183,8 @@ impl WordSet for LinkModifier {
 
     ghost cleans = { Prim.search rules };
 
-    fn all() -> &'static [Self] {
-        LINK_MODIFIERS
+    fn at(place: usize) -> Option<Self> {
+        LINK_MODIFIERS.get(place).copied()
     }
 
     fn spelling(self) -> &'static [u8] {
@@ -204,43 +204,8 @@ pub struct Modifier {
     pub word: LinkModifier,
 }
 
-const MODIFIERS: &[Modifier] = &[
-    Modifier {
-        sign: Sign::Enable,
-        word: LinkModifier::Bundle,
-    },
-    Modifier {
-        sign: Sign::Enable,
-        word: LinkModifier::Verbatim,
-    },
-    Modifier {
-        sign: Sign::Enable,
-        word: LinkModifier::WholeArchive,
-    },
-    Modifier {
-        sign: Sign::Enable,
-        word: LinkModifier::AsNeeded,
-    },
-    Modifier {
-        sign: Sign::Disable,
-        word: LinkModifier::Bundle,
-    },
-    Modifier {
-        sign: Sign::Disable,
-        word: LinkModifier::Verbatim,
-    },
-    Modifier {
-        sign: Sign::Disable,
-        word: LinkModifier::WholeArchive,
-    },
-    Modifier {
-        sign: Sign::Disable,
-        word: LinkModifier::AsNeeded,
-    },
-];
-
 impl WordSet for Modifier {
-    const COUNT: usize = MODIFIERS.len();
+    const COUNT: usize = Sign::COUNT * LinkModifier::COUNT;
 
     const LONGEST: usize = b"+whole-archive".len();
 
@@ -260,8 +225,10 @@ impl WordSet for Modifier {
 
     ghost cleans = { Prim.search rules };
 
-    fn all() -> &'static [Self] {
-        MODIFIERS
+    fn at(place: usize) -> Option<Self> {
+        let sign = Sign::at(place / LinkModifier::COUNT)?;
+        let word = LinkModifier::at(place % LinkModifier::COUNT)?;
+        Some(Modifier { sign, word })
     }
 
     fn spelling(self) -> &'static [u8] {

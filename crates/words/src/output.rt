@@ -49,8 +49,8 @@ impl WordSet for CrateType {
 
     ghost cleans = { Prim.search rules };
 
-    fn all() -> &'static [Self] {
-        CRATE_TYPES
+    fn at(place: usize) -> Option<Self> {
+        CRATE_TYPES.get(place).copied()
     }
 
     fn spelling(self) -> &'static [u8] {
@@ -111,8 +111,8 @@ impl WordSet for Emit {
 
     ghost cleans = { Prim.search rules };
 
-    fn all() -> &'static [Self] {
-        EMITS
+    fn at(place: usize) -> Option<Self> {
+        EMITS.get(place).copied()
     }
 
     fn spelling(self) -> &'static [u8] {

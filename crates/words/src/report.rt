@@ -43,8 +43,8 @@ impl WordSet for LintLevel {
 
     ghost cleans = { Prim.search rules };
 
-    fn all() -> &'static [Self] {
-        LINT_LEVELS
+    fn at(place: usize) -> Option<Self> {
+        LINT_LEVELS.get(place).copied()
     }
 
     fn spelling(self) -> &'static [u8] {
@@ -88,8 +88,8 @@ impl WordSet for ErrorFormat {
 
     ghost cleans = { Prim.search rules };
 
-    fn all() -> &'static [Self] {
-        ERROR_FORMATS
+    fn at(place: usize) -> Option<Self> {
+        ERROR_FORMATS.get(place).copied()
     }
 
     fn spelling(self) -> &'static [u8] {
@@ -132,8 +132,8 @@ impl WordSet for Color {
 
     ghost cleans = { Prim.search rules };
 
-    fn all() -> &'static [Self] {
-        COLORS
+    fn at(place: usize) -> Option<Self> {
+        COLORS.get(place).copied()
     }
 
     fn spelling(self) -> &'static [u8] {

@@ -3,7 +3,7 @@ ghost use Rattle.std.specs.Prelude.{◌≡◌, ℕ, true, List, length, Some};
 ghost use Rattle.std.specs.List.{slice_get};
 ghost use Rattle.words.specs.Reading.{read, longest, clean};
 
-pub trait WordSet: Copy + 'static {
+pub trait WordSet: Copy {
     // how many words there are
     const COUNT: usize;
 
@@ -21,19 +21,12 @@ pub trait WordSet: Copy + 'static {
     // the bytes that a word is written as
     ghost spelled: { Self → List ℕ };
 
-    // The words in their order.
-    fn all() -> &'static [Self]
-        ensures { result.now ≡ words };
+    // The word at a place in the set's order.
+    fn at(place: usize) -> Option<Self>
+        ensures { result ≡ slice_get words place };
 
     fn spelling(self) -> &'static [u8]
         ensures { result.now ≡ spelled self };
-
-    // The word at a place in the set's order.
-    final fn at(place: usize) -> Option<Self>
-        ensures { result ≡ slice_get words place }
-    {
-        Self::all().get(place).copied()
-    }
 
     ghost counted: { COUNT ≡ length words };
 
