@@ -1,6 +1,9 @@
 // The words of a comma list, one after the other.
 ghost use Rattle.std.specs.Prelude.{◌≡◌};
+ghost use Rattle.std.specs.Cmp.{on_per};
+ghost use Rattle.std.specs.Cmp.Lexicographic.{pointwise, lists_per};
 ghost use Rattle.std.specs.Iterator.{YieldsFirst, item_count};
+ghost use Rattle.std.specs.Ordering.{on};
 ghost use Rattle.words.specs.Lists.{known};
 ghost use Rattle.words.specs.Reading.{read};
 
@@ -11,8 +14,18 @@ use std::marker::PhantomData;
 // The known words of what is left of a comma list.
 #[derive(Clone, Copy)]
 pub struct KnownWords<'a, W> {
-    pub rest: &'a [u8],
+    rest: &'a [u8],
     of: PhantomData<W>,
+}
+
+// The known words of a comma list, in their order.
+pub fn known_words<W: WordSet>(list: &[u8]) -> KnownWords<'_, W>
+    ensures { known (read W.words W.spelled) result.rest.now ≡ known (read W.words W.spelled) list.now }
+{
+    KnownWords {
+        rest: list,
+        of: PhantomData,
+    }
 }
 
 impl<W: WordSet> Iterator for KnownWords<'_, W> {
@@ -29,12 +42,19 @@ impl<W: WordSet> Iterator for KnownWords<'_, W> {
     }
 }
 
-// The known words of a comma list, in their order.
-pub fn known_words<W: WordSet>(list: &[u8]) -> KnownWords<'_, W>
-    ensures { known (read W.words W.spelled) result.rest.now ≡ known (read W.words W.spelled) list.now }
+// Whether the same words are left, in the same order.
+fn same_words<W: WordSet + PartialEq>(a: KnownWords<'_, W>, b: KnownWords<'_, W>) -> bool
+    ensures { result ≡ on (λ s. known (read W.words W.spelled) s.rest.now) (pointwise W.eq) a.entry b.entry }
 {
-    KnownWords {
-        rest: list,
-        of: PhantomData,
+    a.eq(b)
+}
+
+impl<W: WordSet + PartialEq> PartialEq for KnownWords<'_, W> {
+    ghost eq = { on (λ s. known (read W.words W.spelled) s.rest.now) (pointwise W.eq) };
+
+    ghost laws = { on_per (λ s. known (read W.words W.spelled) s.rest.now) (lists_per W.PartialEq.laws) };
+
+    fn eq(&self, other: &Self) -> bool {
+        same_words(*self, *other)
     }
 }
