@@ -1,17 +1,13 @@
 use super::*;
 
-fn equal(a: &[u8], b: &[u8]) -> bool {
-    a == b
-}
-
 // Whether a comma list has the words of the set, all in their order.
-fn spells<W: WordSet>(list: &[u8]) -> bool {
+fn spells<W: WordSet + PartialEq>(list: &[u8]) -> bool {
     let mut rest = list;
     for place in 0..W::COUNT {
         let (Some(word), Some((found, behind))) = (W::at(place), next_word::<W>(rest)) else {
             return false;
         };
-        if !equal(word.spelling(), found.spelling()) {
+        if found != word {
             return false;
         }
         rest = &rest[behind..];
