@@ -1,5 +1,5 @@
 -- Two iterators of one kind, whose states show what is left, held against each other item by item. Assumes nothing.
-use Rattle.std.proofs.Common.{◌≡◌, Bool, true, false, ◌&&◌, List, [], ◌∷◌, Option, Some, None, sym, ap, ◌∙◌, subst}
+use Rattle.std.proofs.Common.{◌≡◌, Bool, true, false, List, [], ◌∷◌, Option, Some, None, sym, subst}
 use Rattle.std.specs.Cmp.Lexicographic.{pointwise}
 use Rattle.std.specs.Iterator.{YieldsFirst, YieldsThen, ComparesItemsByEq}
 use Rattle.std.specs.List.{AllZip}

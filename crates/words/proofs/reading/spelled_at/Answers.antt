@@ -1,4 +1,4 @@
-use Rattle.std.proofs.Common.{sym, rules}
+use Rattle.std.proofs.Common.{rules}
 use Rattle.words.proofs.Spelled.{read_filtered}
 use Rattle.words.proofs.reading.spelled_at.Goals as goal
 
