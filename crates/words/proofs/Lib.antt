@@ -1,2 +1,3 @@
+pub mod Compared
 pub mod Parted
 pub mod Spelled

@@ -1,6 +1,8 @@
 -- Laws of reading a word, over any set. Assumes nothing.
-use Rattle.std.proofs.Common.{◌≡◌, ℕ, zero, suc, ◌+◌, ◌<◌, ◌≤◌, Bool, true, false, List, [], ◌∷◌, length, drop, Some, None, sym, refl, ap, ◌∙◌, ⊎_elim, add-one, arith}
+use Rattle.std.proofs.Common.{◌≡◌, ℕ, zero, suc, ◌+◌, ◌<◌, ◌≤◌, Bool, true, false, List, [], ◌∷◌, length, drop, Option, Some, None, sym, refl, ap, ◌∙◌, ⊎_elim, add-one, arith}
 use Rattle.std.specs.List.{slice_get}
+use Rattle.std.specs.Bool.{then_some}
+use Rattle.std.specs.Option.{MatchOption}
 use Rattle.std.specs.Str.{bytes_eq}
 use Rattle.std.proofs.lemmas.Slice.Eq.{bytes_eq-Decides}
 use Rattle.std.proofs.lemmas.List.{drop_all}
@@ -66,3 +68,12 @@ module _ {W : Type 0} (spelled : W → List ℕ) where
 
     pub read_none : slice_get ws i ≡ None → read (drop i ws) spelled bs ≡ read (drop (i + 1) ws) spelled bs
     read_none e = let past : length ws ≤ i = none_here ws i e in read_past ws bs i past ∙ sym (read_past ws bs (i + 1) (omega arith))
+
+    abbrev Tells : Option W → Type 0
+    Tells r = elim r as (λ x. Type 0) [ Some w ↦ read (drop i ws) spelled bs ≡ Some w | None ↦ read (drop i ws) spelled bs ≡ read (drop (i + 1) ws) spelled bs ]
+
+    -- the word there, if its test says so
+    pub read_filtered : {Told : W → Bool → Type 0} → ((w : W) (t : Bool) → Told w t → t ≡ bytes_eq (spelled w) bs) → (o r : Option W) → o ≡ slice_get ws i → MatchOption o (r ≡ None) (λ w. (t : Bool) × Told w t × (r ≡ then_some t w)) → Tells r
+    read_filtered told None r e h = rw h (read_none (sym e))
+    read_filtered told (Some w) r e (true, t, f) = rw f (read_here w (sym e) refl (told w true t) refl)
+    read_filtered told (Some w) r e (false, t, f) = rw f (read_other w (sym e) refl (told w false t) refl)

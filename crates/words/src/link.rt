@@ -1,11 +1,13 @@
 // The words of `-L` and `-l`.
 ghost use Rattle.words.specs.Spellings.{library_kinds, library_kind, link_kinds, link_kind, signs, sign, link_modifiers, link_modifier, modifiers, modifier};
+ghost use Rattle.std.specs.Prelude.{length};
+ghost use Rattle.words.specs.Reading.{longest};
 ghost use Rattle.std.proofs.Common.{rules};
 
 use super::set::WordSet;
 
 // What a path of `-L` is for.
-#[derive(Clone, Copy)]
+#[derive(Clone, Copy, Debug, PartialEq, Eq)]
 pub enum LibraryKind {
     Dependency,
     Crate,
@@ -14,35 +16,40 @@ pub enum LibraryKind {
     All,
 }
 
-impl WordSet for LibraryKind {
-    const COUNT: usize = 5;
+const LIBRARY_KINDS: &[LibraryKind] = &[
+    LibraryKind::Dependency,
+    LibraryKind::Crate,
+    LibraryKind::Native,
+    LibraryKind::Framework,
+    LibraryKind::All,
+];
 
-    const LONGEST: usize = 10;
+impl WordSet for LibraryKind {
+    const COUNT: usize = LIBRARY_KINDS.len();
+
+    const LONGEST: usize = b"dependency".len();
+
+    ghost COUNT = { length library_kinds };
+
+    ghost LONGEST = { longest library_kinds library_kind };
 
     ghost words = { library_kinds };
 
     ghost spelled = { library_kind };
 
+    ghost counted = { Prim.search rules };
+
+    ghost bounded = { Prim.search rules };
+
     ghost reads = { Prim.search rules };
 
     ghost cleans = { Prim.search rules };
 
-    fn sizes() -> (usize, usize) {
-        (LibraryKind::COUNT, LibraryKind::LONGEST)
-    }
-
     fn at(place: usize) -> Option<Self> {
-        match place {
-            0 => Some(LibraryKind::Dependency),
-            1 => Some(LibraryKind::Crate),
-            2 => Some(LibraryKind::Native),
-            3 => Some(LibraryKind::Framework),
-            4 => Some(LibraryKind::All),
-            _ => None,
-        }
+        LIBRARY_KINDS.get(place).copied()
     }
 
-    fn spelling<'a>(self) -> &'a [u8] {
+    fn spelling(self) -> &'static [u8] {
         match self {
             LibraryKind::Dependency => b"dependency",
             LibraryKind::Crate => b"crate",
@@ -54,40 +61,41 @@ impl WordSet for LibraryKind {
 }
 
 // The kind of a library, of `-l`.
-#[derive(Clone, Copy)]
+#[derive(Clone, Copy, Debug, PartialEq, Eq)]
 pub enum LinkKind {
     Static,
     Framework,
     Dylib,
 }
 
-impl WordSet for LinkKind {
-    const COUNT: usize = 3;
+const LINK_KINDS: &[LinkKind] = &[LinkKind::Static, LinkKind::Framework, LinkKind::Dylib];
 
-    const LONGEST: usize = 9;
+impl WordSet for LinkKind {
+    const COUNT: usize = LINK_KINDS.len();
+
+    const LONGEST: usize = b"framework".len();
+
+    ghost COUNT = { length link_kinds };
+
+    ghost LONGEST = { longest link_kinds link_kind };
 
     ghost words = { link_kinds };
 
     ghost spelled = { link_kind };
 
+    ghost counted = { Prim.search rules };
+
+    ghost bounded = { Prim.search rules };
+
     ghost reads = { Prim.search rules };
 
     ghost cleans = { Prim.search rules };
 
-    fn sizes() -> (usize, usize) {
-        (LinkKind::COUNT, LinkKind::LONGEST)
-    }
-
     fn at(place: usize) -> Option<Self> {
-        match place {
-            0 => Some(LinkKind::Static),
-            1 => Some(LinkKind::Framework),
-            2 => Some(LinkKind::Dylib),
-            _ => None,
-        }
+        LINK_KINDS.get(place).copied()
     }
 
-    fn spelling<'a>(self) -> &'a [u8] {
+    fn spelling(self) -> &'static [u8] {
         match self {
             LinkKind::Static => b"static",
             LinkKind::Framework => b"framework",
@@ -97,38 +105,40 @@ impl WordSet for LinkKind {
 }
 
 // Whether a modifier is on or off.
-#[derive(Clone, Copy)]
+#[derive(Clone, Copy, Debug, PartialEq, Eq)]
 pub enum Sign {
     Enable,
     Disable,
 }
 
-impl WordSet for Sign {
-    const COUNT: usize = 2;
+const SIGNS: &[Sign] = &[Sign::Enable, Sign::Disable];
 
-    const LONGEST: usize = 1;
+impl WordSet for Sign {
+    const COUNT: usize = SIGNS.len();
+
+    const LONGEST: usize = b"+".len();
+
+    ghost COUNT = { length signs };
+
+    ghost LONGEST = { longest signs sign };
 
     ghost words = { signs };
 
     ghost spelled = { sign };
 
+    ghost counted = { Prim.search rules };
+
+    ghost bounded = { Prim.search rules };
+
     ghost reads = { Prim.search rules };
 
     ghost cleans = { Prim.search rules };
 
-    fn sizes() -> (usize, usize) {
-        (Sign::COUNT, Sign::LONGEST)
-    }
-
     fn at(place: usize) -> Option<Self> {
-        match place {
-            0 => Some(Sign::Enable),
-            1 => Some(Sign::Disable),
-            _ => None,
-        }
+        SIGNS.get(place).copied()
     }
 
-    fn spelling<'a>(self) -> &'a [u8] {
+    fn spelling(self) -> &'static [u8] {
         match self {
             Sign::Enable => b"+",
             Sign::Disable => b"-",
@@ -137,7 +147,7 @@ impl WordSet for Sign {
 }
 
 // What a modifier of `-l` turns on or off.
-#[derive(Clone, Copy)]
+#[derive(Clone, Copy, Debug, PartialEq, Eq)]
 pub enum LinkModifier {
     Bundle,
     Verbatim,
@@ -145,34 +155,39 @@ pub enum LinkModifier {
     AsNeeded,
 }
 
-impl WordSet for LinkModifier {
-    const COUNT: usize = 4;
+const LINK_MODIFIERS: &[LinkModifier] = &[
+    LinkModifier::Bundle,
+    LinkModifier::Verbatim,
+    LinkModifier::WholeArchive,
+    LinkModifier::AsNeeded,
+];
 
-    const LONGEST: usize = 13;
+impl WordSet for LinkModifier {
+    const COUNT: usize = LINK_MODIFIERS.len();
+
+    const LONGEST: usize = b"whole-archive".len();
+
+    ghost COUNT = { length link_modifiers };
+
+    ghost LONGEST = { longest link_modifiers link_modifier };
 
     ghost words = { link_modifiers };
 
     ghost spelled = { link_modifier };
 
+    ghost counted = { Prim.search rules };
+
+    ghost bounded = { Prim.search rules };
+
     ghost reads = { Prim.search rules };
 
     ghost cleans = { Prim.search rules };
 
-    fn sizes() -> (usize, usize) {
-        (LinkModifier::COUNT, LinkModifier::LONGEST)
-    }
-
     fn at(place: usize) -> Option<Self> {
-        match place {
-            0 => Some(LinkModifier::Bundle),
-            1 => Some(LinkModifier::Verbatim),
-            2 => Some(LinkModifier::WholeArchive),
-            3 => Some(LinkModifier::AsNeeded),
-            _ => None,
-        }
+        LINK_MODIFIERS.get(place).copied()
     }
 
-    fn spelling<'a>(self) -> &'a [u8] {
+    fn spelling(self) -> &'static [u8] {
         match self {
             LinkModifier::Bundle => b"bundle",
             LinkModifier::Verbatim => b"verbatim",
@@ -183,45 +198,40 @@ impl WordSet for LinkModifier {
 }
 
 // A modifier of `-l`: a sign and then a word.
-#[derive(Clone, Copy)]
+#[derive(Clone, Copy, Debug, PartialEq, Eq)]
 pub struct Modifier {
     pub sign: Sign,
     pub word: LinkModifier,
 }
 
 impl WordSet for Modifier {
-    const COUNT: usize = 8;
+    const COUNT: usize = Sign::COUNT * LinkModifier::COUNT;
 
-    const LONGEST: usize = 14;
+    const LONGEST: usize = b"+whole-archive".len();
+
+    ghost COUNT = { length modifiers };
+
+    ghost LONGEST = { longest modifiers modifier };
 
     ghost words = { modifiers };
 
     ghost spelled = { modifier };
 
+    ghost counted = { Prim.search rules };
+
+    ghost bounded = { Prim.search rules };
+
     ghost reads = { Prim.search rules };
 
     ghost cleans = { Prim.search rules };
 
-    fn sizes() -> (usize, usize) {
-        (Modifier::COUNT, Modifier::LONGEST)
-    }
-
     fn at(place: usize) -> Option<Self> {
-        let (sign, word) = match place {
-            0 => (Sign::Enable, LinkModifier::Bundle),
-            1 => (Sign::Enable, LinkModifier::Verbatim),
-            2 => (Sign::Enable, LinkModifier::WholeArchive),
-            3 => (Sign::Enable, LinkModifier::AsNeeded),
-            4 => (Sign::Disable, LinkModifier::Bundle),
-            5 => (Sign::Disable, LinkModifier::Verbatim),
-            6 => (Sign::Disable, LinkModifier::WholeArchive),
-            7 => (Sign::Disable, LinkModifier::AsNeeded),
-            _ => return None,
-        };
+        let sign = Sign::at(place / LinkModifier::COUNT)?;
+        let word = LinkModifier::at(place % LinkModifier::COUNT)?;
         Some(Modifier { sign, word })
     }
 
-    fn spelling<'a>(self) -> &'a [u8] {
+    fn spelling(self) -> &'static [u8] {
         match (self.sign, self.word) {
             (Sign::Enable, LinkModifier::Bundle) => b"+bundle",
             (Sign::Enable, LinkModifier::Verbatim) => b"+verbatim",

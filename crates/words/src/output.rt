@@ -1,11 +1,13 @@
 // The words of what rustc makes.
 ghost use Rattle.words.specs.Spellings.{crate_types, crate_type, emits, emit};
+ghost use Rattle.std.specs.Prelude.{length};
+ghost use Rattle.words.specs.Reading.{longest};
 ghost use Rattle.std.proofs.Common.{rules};
 
 use super::set::WordSet;
 
 // The type of a crate, of `--crate-type`.
-#[derive(Clone, Copy)]
+#[derive(Clone, Copy, Debug, PartialEq, Eq)]
 pub enum CrateType {
     Bin,
     Lib,
@@ -16,37 +18,42 @@ pub enum CrateType {
     ProcMacro,
 }
 
-impl WordSet for CrateType {
-    const COUNT: usize = 7;
+const CRATE_TYPES: &[CrateType] = &[
+    CrateType::Bin,
+    CrateType::Lib,
+    CrateType::Rlib,
+    CrateType::Dylib,
+    CrateType::Cdylib,
+    CrateType::Staticlib,
+    CrateType::ProcMacro,
+];
 
-    const LONGEST: usize = 10;
+impl WordSet for CrateType {
+    const COUNT: usize = CRATE_TYPES.len();
+
+    const LONGEST: usize = b"proc-macro".len();
+
+    ghost COUNT = { length crate_types };
+
+    ghost LONGEST = { longest crate_types crate_type };
 
     ghost words = { crate_types };
 
     ghost spelled = { crate_type };
 
+    ghost counted = { Prim.search rules };
+
+    ghost bounded = { Prim.search rules };
+
     ghost reads = { Prim.search rules };
 
     ghost cleans = { Prim.search rules };
 
-    fn sizes() -> (usize, usize) {
-        (CrateType::COUNT, CrateType::LONGEST)
-    }
-
     fn at(place: usize) -> Option<Self> {
-        match place {
-            0 => Some(CrateType::Bin),
-            1 => Some(CrateType::Lib),
-            2 => Some(CrateType::Rlib),
-            3 => Some(CrateType::Dylib),
-            4 => Some(CrateType::Cdylib),
-            5 => Some(CrateType::Staticlib),
-            6 => Some(CrateType::ProcMacro),
-            _ => None,
-        }
+        CRATE_TYPES.get(place).copied()
     }
 
-    fn spelling<'a>(self) -> &'a [u8] {
+    fn spelling(self) -> &'static [u8] {
         match self {
             CrateType::Bin => b"bin",
             CrateType::Lib => b"lib",
@@ -60,7 +67,7 @@ impl WordSet for CrateType {
 }
 
 // A kind of output, of `--emit`.
-#[derive(Clone, Copy)]
+#[derive(Clone, Copy, Debug, PartialEq, Eq)]
 pub enum Emit {
     Asm,
     LlvmBc,
@@ -72,38 +79,43 @@ pub enum Emit {
     Mir,
 }
 
-impl WordSet for Emit {
-    const COUNT: usize = 8;
+const EMITS: &[Emit] = &[
+    Emit::Asm,
+    Emit::LlvmBc,
+    Emit::LlvmIr,
+    Emit::Obj,
+    Emit::Metadata,
+    Emit::Link,
+    Emit::DepInfo,
+    Emit::Mir,
+];
 
-    const LONGEST: usize = 8;
+impl WordSet for Emit {
+    const COUNT: usize = EMITS.len();
+
+    const LONGEST: usize = b"metadata".len();
+
+    ghost COUNT = { length emits };
+
+    ghost LONGEST = { longest emits emit };
 
     ghost words = { emits };
 
     ghost spelled = { emit };
 
+    ghost counted = { Prim.search rules };
+
+    ghost bounded = { Prim.search rules };
+
     ghost reads = { Prim.search rules };
 
     ghost cleans = { Prim.search rules };
 
-    fn sizes() -> (usize, usize) {
-        (Emit::COUNT, Emit::LONGEST)
-    }
-
     fn at(place: usize) -> Option<Self> {
-        match place {
-            0 => Some(Emit::Asm),
-            1 => Some(Emit::LlvmBc),
-            2 => Some(Emit::LlvmIr),
-            3 => Some(Emit::Obj),
-            4 => Some(Emit::Metadata),
-            5 => Some(Emit::Link),
-            6 => Some(Emit::DepInfo),
-            7 => Some(Emit::Mir),
-            _ => None,
-        }
+        EMITS.get(place).copied()
     }
 
-    fn spelling<'a>(self) -> &'a [u8] {
+    fn spelling(self) -> &'static [u8] {
         match self {
             Emit::Asm => b"asm",
             Emit::LlvmBc => b"llvm-bc",

@@ -1,42 +1,31 @@
 // Words read from bytes and from comma lists.
 ghost use Rattle.std.specs.Prelude.{◌≡◌, ◌+◌, ◌<◌, ◌≤◌, length, drop, Some, None};
-ghost use Rattle.std.specs.Str.{bytes_eq};
 ghost use Rattle.words.specs.Lists.{known, first_known, from_first, ListsReadBack, Ended, Part};
 ghost use Rattle.words.specs.Reading.{read, ReadsExactly};
 
 use super::set::WordSet;
 use text::piece_at;
 
-fn same(a: &[u8], b: &[u8]) -> bool
-    ensures { result ≡ bytes_eq a.now b.now }
-{
-    a == b
-}
-
 // How many words to try: none for bytes longer than each spelling.
 fn tries<W: WordSet>(bytes: &[u8]) -> usize
     ensures end { read (drop result W.words) W.spelled bytes.now ≡ None }
     ensures exactly { ReadsExactly W.words W.spelled bytes.now }
 {
-    let (count, longest) = W::sizes();
-    if bytes.len() <= longest { count } else { 0 }
+    if bytes.len() <= W::LONGEST {
+        W::COUNT
+    } else {
+        0
+    }
 }
 
 // The word at a place, if these bytes spell it.
 fn spelled_at<W: WordSet>(place: usize, bytes: &[u8]) -> Option<W>
     ensures { elim result [ Some w ↦ read (drop place W.words) W.spelled bytes.now ≡ Some w | None ↦ read (drop place W.words) W.spelled bytes.now ≡ read (drop (place + 1) W.words) W.spelled bytes.now ] }
 {
-    let Some(word) = W::at(place) else {
-        return None;
-    };
-    if same(word.spelling(), bytes) {
-        Some(word)
-    } else {
-        None
-    }
+    W::at(place).filter(|word| word.spelling() == bytes)
 }
 
-// The word that these bytes spell.
+// The word that these bytes spell. A loop, and no chain: the kit covers no `filter_map(W::at)` yet.
 pub fn read_word<W: WordSet>(bytes: &[u8]) -> Option<W>
     ensures answer { result ≡ read W.words W.spelled bytes.now }
     ensures exactly { ReadsExactly W.words W.spelled bytes.now }
@@ -70,9 +59,7 @@ pub fn next_word<W: WordSet>(list: &[u8]) -> Option<(W, usize)>
 {
     let mut at = 0;
     'parts: loop {
-        let Some((part, behind)) = part_at::<W>(list, at) else {
-            break 'parts None;
-        };
+        let (part, behind) = part_at::<W>(list, at)?;
         for place in 0..tries::<W>(part) {
             if let Some(word) = spelled_at(place, part) {
                 break 'parts Some((word, behind));

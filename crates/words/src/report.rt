@@ -1,11 +1,13 @@
 // The words of what rustc reports.
 ghost use Rattle.words.specs.Spellings.{lint_levels, lint_level, error_formats, error_format, colors, color};
+ghost use Rattle.std.specs.Prelude.{length};
+ghost use Rattle.words.specs.Reading.{longest};
 ghost use Rattle.std.proofs.Common.{rules};
 
 use super::set::WordSet;
 
 // A level of lints, of `--cap-lints`.
-#[derive(Clone, Copy)]
+#[derive(Clone, Copy, Debug, PartialEq, Eq)]
 pub enum LintLevel {
     Allow,
     Warn,
@@ -13,34 +15,39 @@ pub enum LintLevel {
     Forbid,
 }
 
-impl WordSet for LintLevel {
-    const COUNT: usize = 4;
+const LINT_LEVELS: &[LintLevel] = &[
+    LintLevel::Allow,
+    LintLevel::Warn,
+    LintLevel::Deny,
+    LintLevel::Forbid,
+];
 
-    const LONGEST: usize = 6;
+impl WordSet for LintLevel {
+    const COUNT: usize = LINT_LEVELS.len();
+
+    const LONGEST: usize = b"forbid".len();
+
+    ghost COUNT = { length lint_levels };
+
+    ghost LONGEST = { longest lint_levels lint_level };
 
     ghost words = { lint_levels };
 
     ghost spelled = { lint_level };
 
+    ghost counted = { Prim.search rules };
+
+    ghost bounded = { Prim.search rules };
+
     ghost reads = { Prim.search rules };
 
     ghost cleans = { Prim.search rules };
 
-    fn sizes() -> (usize, usize) {
-        (LintLevel::COUNT, LintLevel::LONGEST)
-    }
-
     fn at(place: usize) -> Option<Self> {
-        match place {
-            0 => Some(LintLevel::Allow),
-            1 => Some(LintLevel::Warn),
-            2 => Some(LintLevel::Deny),
-            3 => Some(LintLevel::Forbid),
-            _ => None,
-        }
+        LINT_LEVELS.get(place).copied()
     }
 
-    fn spelling<'a>(self) -> &'a [u8] {
+    fn spelling(self) -> &'static [u8] {
         match self {
             LintLevel::Allow => b"allow",
             LintLevel::Warn => b"warn",
@@ -51,40 +58,41 @@ impl WordSet for LintLevel {
 }
 
 // The form of messages, of `--error-format`.
-#[derive(Clone, Copy)]
+#[derive(Clone, Copy, Debug, PartialEq, Eq)]
 pub enum ErrorFormat {
     Human,
     Json,
     Short,
 }
 
-impl WordSet for ErrorFormat {
-    const COUNT: usize = 3;
+const ERROR_FORMATS: &[ErrorFormat] = &[ErrorFormat::Human, ErrorFormat::Json, ErrorFormat::Short];
 
-    const LONGEST: usize = 5;
+impl WordSet for ErrorFormat {
+    const COUNT: usize = ERROR_FORMATS.len();
+
+    const LONGEST: usize = b"human".len();
+
+    ghost COUNT = { length error_formats };
+
+    ghost LONGEST = { longest error_formats error_format };
 
     ghost words = { error_formats };
 
     ghost spelled = { error_format };
 
+    ghost counted = { Prim.search rules };
+
+    ghost bounded = { Prim.search rules };
+
     ghost reads = { Prim.search rules };
 
     ghost cleans = { Prim.search rules };
 
-    fn sizes() -> (usize, usize) {
-        (ErrorFormat::COUNT, ErrorFormat::LONGEST)
-    }
-
     fn at(place: usize) -> Option<Self> {
-        match place {
-            0 => Some(ErrorFormat::Human),
-            1 => Some(ErrorFormat::Json),
-            2 => Some(ErrorFormat::Short),
-            _ => None,
-        }
+        ERROR_FORMATS.get(place).copied()
     }
 
-    fn spelling<'a>(self) -> &'a [u8] {
+    fn spelling(self) -> &'static [u8] {
         match self {
             ErrorFormat::Human => b"human",
             ErrorFormat::Json => b"json",
@@ -94,40 +102,41 @@ impl WordSet for ErrorFormat {
 }
 
 // When to colour messages, of `--color`.
-#[derive(Clone, Copy)]
+#[derive(Clone, Copy, Debug, PartialEq, Eq)]
 pub enum Color {
     Auto,
     Always,
     Never,
 }
 
-impl WordSet for Color {
-    const COUNT: usize = 3;
+const COLORS: &[Color] = &[Color::Auto, Color::Always, Color::Never];
 
-    const LONGEST: usize = 6;
+impl WordSet for Color {
+    const COUNT: usize = COLORS.len();
+
+    const LONGEST: usize = b"always".len();
+
+    ghost COUNT = { length colors };
+
+    ghost LONGEST = { longest colors color };
 
     ghost words = { colors };
 
     ghost spelled = { color };
 
+    ghost counted = { Prim.search rules };
+
+    ghost bounded = { Prim.search rules };
+
     ghost reads = { Prim.search rules };
 
     ghost cleans = { Prim.search rules };
 
-    fn sizes() -> (usize, usize) {
-        (Color::COUNT, Color::LONGEST)
-    }
-
     fn at(place: usize) -> Option<Self> {
-        match place {
-            0 => Some(Color::Auto),
-            1 => Some(Color::Always),
-            2 => Some(Color::Never),
-            _ => None,
-        }
+        COLORS.get(place).copied()
     }
 
-    fn spelling<'a>(self) -> &'a [u8] {
+    fn spelling(self) -> &'static [u8] {
         match self {
             Color::Auto => b"auto",
             Color::Always => b"always",

@@ -10,23 +10,27 @@ pub trait WordSet: Copy {
     // the length of the longest spelling
     const LONGEST: usize;
 
+    // both constants, as clauses name them
+    ghost COUNT: { ℕ };
+
+    ghost LONGEST: { ℕ };
+
     // the words in their order
     ghost words: { List Self };
 
     // the bytes that a word is written as
     ghost spelled: { Self → List ℕ };
 
-    // Both constants: clauses cannot name them, so this says what they are.
-    fn sizes() -> (usize, usize)
-        ensures count { result.0 ≡ length words }
-        ensures longest { result.1 ≡ longest words spelled };
-
     // The word at a place in the set's order.
     fn at(place: usize) -> Option<Self>
         ensures { result ≡ slice_get words place };
 
-    fn spelling<'a>(self) -> &'a [u8]
+    fn spelling(self) -> &'static [u8]
         ensures { result.now ≡ spelled self };
+
+    ghost counted: { COUNT ≡ length words };
+
+    ghost bounded: { LONGEST ≡ longest words spelled };
 
     // A spelling reads as its word, and as no other.
     ghost reads: { (w : Self) → read words spelled (spelled w) ≡ Some w };

@@ -1,17 +1,13 @@
 use super::*;
 
-fn equal(a: &[u8], b: &[u8]) -> bool {
-    a == b
-}
-
 // Whether a comma list has the words of the set, all in their order.
-fn spells<W: WordSet>(list: &[u8]) -> bool {
+fn spells<W: WordSet + PartialEq>(list: &[u8]) -> bool {
     let mut rest = list;
     for place in 0..W::COUNT {
         let (Some(word), Some((found, behind))) = (W::at(place), next_word::<W>(rest)) else {
             return false;
         };
-        if !equal(word.spelling(), found.spelling()) {
+        if found != word {
             return false;
         }
         rest = &rest[behind..];
@@ -104,5 +100,50 @@ fn modifiers(rt: HostRuntime) {
         let (w, b) = first::<Modifier>(list);
         assert!(rt; w == word);
         assert_eq!(rt; b, behind);
+    }
+}
+
+// How many known words a list has, or 0 unless they are the set's first ones in their order.
+fn in_order<W: WordSet + PartialEq>(list: &[u8]) -> usize {
+    let mut place: usize = 0;
+    for word in known_words::<W>(list) {
+        if W::at(place) != Some(word) {
+            return 0;
+        }
+        place = place.saturating_add(1);
+    }
+    place
+}
+
+#[test]
+fn known(rt: HostRuntime) {
+    let cases: [(&[u8], usize); 6] = [
+        (b"asm,llvm-bc,llvm-ir,obj,metadata,link,dep-info,mir", 8),
+        (b"zz,asm,,llvm-bc,\xff", 2),
+        (b"asm,asm", 0),
+        (b"llvm-bc", 0),
+        (b",", 0),
+        (b"", 0),
+    ];
+    for (list, count) in cases {
+        assert_eq!(rt; in_order::<Emit>(list), count);
+    }
+}
+
+#[test]
+fn same_known(rt: HostRuntime) {
+    let cases: [(&[u8], &[u8], bool); 6] = [
+        (b"+bundle,-verbatim", b",+bundle,zz,-verbatim,", true),
+        (b"+bundle,-verbatim", b"-verbatim,+bundle", false),
+        (b"+bundle", b"+bundle,-verbatim", false),
+        (b"+bundle", b"-bundle", false),
+        (b"bundle", b"", true),
+        (b"", b"", true),
+    ];
+    for (a, b, same) in cases {
+        assert_eq!(rt;
+            known_words::<Modifier>(a) == known_words::<Modifier>(b),
+            same
+        );
     }
 }
