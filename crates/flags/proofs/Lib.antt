@@ -1,2 +1,2 @@
-mod Modified
+pub mod Same
 pub mod Numbered

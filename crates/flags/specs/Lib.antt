@@ -1,4 +1,3 @@
-pub mod Apart
 pub mod Codes
 pub mod Meaning
 pub mod Sound

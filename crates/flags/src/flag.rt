@@ -1,7 +1,8 @@
 // A flag that rustc knows, its text fields and paths as borrowed bytes.
+use super::modifiers::ModifierList;
 use words::{Color, CrateType, Emit, ErrorFormat, LibraryKind, LinkKind, LintLevel};
 
-#[derive(Clone, Copy)]
+#[derive(Clone, Copy, PartialEq, Eq)]
 pub enum Flag<'a> {
     // `-h`, `--help`
     Help,
@@ -15,10 +16,10 @@ pub enum Flag<'a> {
         kind: LibraryKind,
         path: &'a [u8],
     },
-    // `-l [KIND[:MODIFIERS]=]NAME[:RENAME]`; the modifiers as the comma list that they came in
+    // `-l [KIND[:MODIFIERS]=]NAME[:RENAME]`
     Link {
         kind: LinkKind,
-        modifiers: &'a [u8],
+        modifiers: ModifierList<'a>,
         name: &'a [u8],
         rename: Option<&'a [u8]>,
     },

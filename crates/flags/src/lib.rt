@@ -4,10 +4,12 @@
 mod equality;
 mod flag;
 mod kinds;
+mod modifiers;
 
 pub use equality::equal;
 pub use flag::Flag;
 pub use kinds::{Code, Kind, Takes};
+pub use modifiers::ModifierList;
 
 #[cfg(test)]
 mod tests;

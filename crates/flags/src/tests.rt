@@ -20,7 +20,7 @@ fn numbers(rt: HostRuntime) {
 fn link<'a>(modifiers: &'a [u8], rename: Option<&'a [u8]>) -> Flag<'a> {
     Flag::Link {
         kind: LinkKind::Static,
-        modifiers,
+        modifiers: ModifierList { text: modifiers },
         name: b"z",
         rename,
     }
