@@ -1,5 +1,5 @@
 -- The derived `==` of flags tells whether they mean the same. Assumes nothing.
-use Rattle.std.proofs.Common.{◌≡◌, ℕ, List, Option, Bor, rules}
+use Rattle.std.proofs.Common.{◌≡◌, ℕ, Bool, List, Option, Bor, sym, subst, rules}
 use Rattle.std.specs.Bool.{Decides}
 use Rattle.std.specs.Cmp.Lexicographic.{pointwise, pointwise_decides}
 use Rattle.words.specs.contracts.link.ModifierPartialEq.TheImpl as modifier
@@ -73,7 +73,7 @@ module _ (b : Flag) where
   link : (k : LinkKind) (ms : ModifierList) (x : Bor Bytes) (y : Option (Bor Bytes)) → Tells (flag.Link k ms x y) b
   link k ms x y = search (same_modifiers, rules)
 
-pub tells : (a b : Flag) → Tells a b
+tells : (a b : Flag) → Tells a b
 tells flag.Help b = search (bare b)
 tells (flag.Cfg x y) b = search (perhaps b x y)
 tells (flag.LibrarySearchPath k x) b = path b k x
@@ -105,3 +105,6 @@ tells (flag.ErrorFormat w) b = error_format b w
 tells (flag.Json x) b = search (raw b x)
 tells (flag.Color w) b = color b w
 tells (flag.RemapPathPrefix x y) b = search (texts b x y)
+
+pub told_by : (a b : Flag) (r : Bool) → r ≡ (derived.ghosts).eq a b → TellsEqual r (meaning a) (meaning b)
+told_by a b r e = subst (λ t. TellsEqual t (meaning a) (meaning b)) (sym e) (tells a b)
