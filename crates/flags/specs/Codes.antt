@@ -1,12 +1,15 @@
 -- The codes of options: one entry for each. Assumes nothing.
-use Rattle.std.specs.Prelude.{◌≡◌, ℕ, List, [], ◌∷◌, ◌++◌, map, Some, None, codes, Option}
+use Rattle.std.specs.Prelude.{◌≡◌, ℕ, List, [], ◌∷◌, ◌++◌, map, Some, None, codes, Option, Result}
 use Rattle.std.specs.List.{slice_get}
+use Rattle.std.specs.Option.{ok_or}
+use Rattle.std.specs.Result.{result_ok}
 use Rattle.flags.specs.Meaning.{Meaning, help, cfg, library_path, link, crate_type, crate_name, edition, emit, print, out, out_dir, explain, test, target, allow, warn, force_warn, deny, forbid, cap_lints, codegen, version, verbose, extern, extern_location, sysroot, z, error_format, json, color, remap_path_prefix}
 use Rattle.flags.specs.declared.kinds.Code.{Code}
 use Rattle.flags.specs.declared.kinds.Code.TheVariants.{Of, Debuginfo, Optimize}
 use Rattle.flags.specs.declared.kinds.Kind.{Kind}
 use Rattle.flags.specs.declared.kinds.Kind.TheVariants as kind
 use Rattle.flags.specs.declared.kinds.Takes.{Takes}
+use Rattle.flags.specs.declared.kinds.UnknownCode.{UnknownCode}
 use Rattle.flags.specs.declared.kinds.Takes.TheVariants.{Nothing, List as list, One}
 
 -- a code's number, the kind that it makes, what it takes, and the flag of a bare one
@@ -106,6 +109,12 @@ code_of n = slice_get all_codes n
 pub record TellsCode (n : ℕ) : Type 0 where
   pub there : (c : Code) → (about c).number ≡ n → code_of n ≡ Some c
   pub back : (c : Code) → code_of n ≡ Some c → (about c).number ≡ n
+
+-- a number gives its code, or where it has none an error that names it
+pub record Decodes (n : ℕ) (r : Result Code UnknownCode) : Type 0 where
+  pub answer : result_ok r ≡ code_of n
+  pub value : r ≡ ok_or (code_of n) (record { 0 = n })
+  pub exact : TellsCode n
 
 -- the one spelling in which a kind is written
 abbrev pub home : Kind → List ℕ

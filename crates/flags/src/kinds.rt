@@ -1,13 +1,15 @@
 // The kinds of flags and the codes of options.
-ghost use Rattle.std.specs.Prelude.{◌≡◌, ◌<◌};
+ghost use Rattle.std.specs.Prelude.{◌≡◌};
 ghost use Rattle.std.specs.Option.{option_map};
-ghost use Rattle.flags.specs.Codes.{about, code_of, TellsCode, home as home_of, kind_of};
+ghost use Rattle.flags.specs.Codes.{about, Decodes, home as home_of, kind_of};
 ghost use Rattle.flags.specs.Meaning.{meaning};
 
 use super::flag::Flag;
+use std::error::Error;
+use std::fmt;
 
 // The kinds, in the order of `Flag`.
-#[derive(Clone, Copy)]
+#[derive(Clone, Copy, Debug, PartialEq, Eq, Hash)]
 pub enum Kind {
     Help,
     Cfg,
@@ -43,7 +45,7 @@ pub enum Kind {
 }
 
 // What an option makes: flags of a kind, or one codegen option that has a letter of its own.
-#[derive(Clone, Copy)]
+#[derive(Clone, Copy, Debug, PartialEq, Eq, Hash)]
 pub enum Code {
     Of(Kind),
     // `-g`
@@ -52,8 +54,12 @@ pub enum Code {
     Optimize,
 }
 
+// A number that no code has.
+#[derive(Clone, Copy, Debug, PartialEq, Eq, Hash)]
+pub struct UnknownCode(pub u8);
+
 // What an option takes behind its name.
-#[derive(Clone, Copy)]
+#[derive(Clone, Copy, Debug, PartialEq, Eq, Hash)]
 pub enum Takes {
     Nothing,
     List,
@@ -108,65 +114,43 @@ impl Kind {
     }
 }
 
-// The code at a place in the order of numbers. In two halves, since the checker rules out only so many numbers in one `match`.
-fn nth_code(place: u8) -> Option<Code>
-    ensures { result ≡ code_of place }
-{
-    match place {
-        0 => Some(Code::Of(Kind::Help)),
-        1 => Some(Code::Of(Kind::Cfg)),
-        2 => Some(Code::Of(Kind::LibrarySearchPath)),
-        3 => Some(Code::Of(Kind::Link)),
-        4 => Some(Code::Of(Kind::CrateType)),
-        5 => Some(Code::Of(Kind::CrateName)),
-        6 => Some(Code::Of(Kind::Edition)),
-        7 => Some(Code::Of(Kind::Emit)),
-        8 => Some(Code::Of(Kind::Print)),
-        9 => Some(Code::Of(Kind::Out)),
-        10 => Some(Code::Of(Kind::OutDir)),
-        11 => Some(Code::Of(Kind::Explain)),
-        12 => Some(Code::Of(Kind::Test)),
-        13 => Some(Code::Of(Kind::Target)),
-        14 => Some(Code::Of(Kind::Allow)),
-        15 => Some(Code::Of(Kind::Warn)),
-        _ => nth_later_code(place),
-    }
-}
-
-fn nth_later_code(place: u8) -> Option<Code>
-    requires { 15 < place }
-    ensures { result ≡ code_of place }
-{
-    match place {
-        16 => Some(Code::Of(Kind::ForceWarn)),
-        17 => Some(Code::Of(Kind::Deny)),
-        18 => Some(Code::Of(Kind::Forbid)),
-        19 => Some(Code::Of(Kind::CapLints)),
-        20 => Some(Code::Of(Kind::Codegen)),
-        21 => Some(Code::Of(Kind::Version)),
-        22 => Some(Code::Of(Kind::Verbose)),
-        23 => Some(Code::Of(Kind::Extern)),
-        24 => Some(Code::Of(Kind::ExternLocation)),
-        25 => Some(Code::Of(Kind::Sysroot)),
-        26 => Some(Code::Of(Kind::Z)),
-        27 => Some(Code::Of(Kind::ErrorFormat)),
-        28 => Some(Code::Of(Kind::Json)),
-        29 => Some(Code::Of(Kind::Color)),
-        30 => Some(Code::Of(Kind::RemapPathPrefix)),
-        31 => Some(Code::Debuginfo),
-        32 => Some(Code::Optimize),
-        _ => None,
-    }
-}
-
 impl Code {
-    // The code that has a number.
-    pub fn from_number(number: u8) -> Option<Code>
-        ensures answer { result ≡ code_of number }
-        ensures exact { TellsCode number }
-    {
-        nth_code(number)
-    }
+    // The codes in the order of their numbers.
+    const ALL: [Code; 33] = [
+        Code::Of(Kind::Help),
+        Code::Of(Kind::Cfg),
+        Code::Of(Kind::LibrarySearchPath),
+        Code::Of(Kind::Link),
+        Code::Of(Kind::CrateType),
+        Code::Of(Kind::CrateName),
+        Code::Of(Kind::Edition),
+        Code::Of(Kind::Emit),
+        Code::Of(Kind::Print),
+        Code::Of(Kind::Out),
+        Code::Of(Kind::OutDir),
+        Code::Of(Kind::Explain),
+        Code::Of(Kind::Test),
+        Code::Of(Kind::Target),
+        Code::Of(Kind::Allow),
+        Code::Of(Kind::Warn),
+        Code::Of(Kind::ForceWarn),
+        Code::Of(Kind::Deny),
+        Code::Of(Kind::Forbid),
+        Code::Of(Kind::CapLints),
+        Code::Of(Kind::Codegen),
+        Code::Of(Kind::Version),
+        Code::Of(Kind::Verbose),
+        Code::Of(Kind::Extern),
+        Code::Of(Kind::ExternLocation),
+        Code::Of(Kind::Sysroot),
+        Code::Of(Kind::Z),
+        Code::Of(Kind::ErrorFormat),
+        Code::Of(Kind::Json),
+        Code::Of(Kind::Color),
+        Code::Of(Kind::RemapPathPrefix),
+        Code::Debuginfo,
+        Code::Optimize,
+    ];
 
     pub fn number(self) -> u8
         ensures { result ≡ (about self).number }
@@ -221,6 +205,29 @@ impl Code {
         }
     }
 }
+
+// The code that has a number.
+impl TryFrom<u8> for Code {
+    type Error = UnknownCode;
+
+    ghost try_from_gives = { Decodes };
+
+    #[tactic(auto, using(crate::proofs::Numbered::decodes))]
+    fn try_from(number: u8) -> Result<Self, UnknownCode> {
+        Code::ALL
+            .get(usize::from(number))
+            .copied()
+            .ok_or(UnknownCode(number))
+    }
+}
+
+impl fmt::Display for UnknownCode {
+    fn fmt<W: fmt::Write>(&self, f: &mut fmt::Formatter<W>) -> fmt::Result {
+        write!(f, "no code has number {}", self.0)
+    }
+}
+
+impl Error for UnknownCode {}
 
 impl Flag<'_> {
     pub fn kind(self) -> Kind

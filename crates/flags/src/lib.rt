@@ -8,7 +8,7 @@ mod modifiers;
 
 pub use equality::equal;
 pub use flag::Flag;
-pub use kinds::{Code, Kind, Takes};
+pub use kinds::{Code, Kind, Takes, UnknownCode};
 pub use modifiers::ModifierList;
 
 #[cfg(test)]

@@ -2,18 +2,11 @@ use super::*;
 use std::test::Fail;
 use words::{CrateType, LibraryKind, LinkKind};
 
-// The number of the code with a number, or 99.
-fn again(number: u8) -> u8 {
-    match Code::from_number(number) {
-        Some(code) => code.number(),
-        None => 99,
-    }
-}
-
 #[test]
 fn numbers(rt: HostRuntime) {
     for number in 0..=255u8 {
-        assert_eq!(rt; again(number), if number <= 32 { number } else { 99 });
+        let again = Code::try_from(number).map(Code::number);
+        assert_eq!(rt; again, if number <= 32 { Ok(number) } else { Err(UnknownCode(number)) });
     }
 }
 
