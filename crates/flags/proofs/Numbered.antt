@@ -1,16 +1,14 @@
 -- Codes and their numbers. Assumes nothing.
-use Rattle.std.proofs.Common.{◌≡◌, ℕ, zero, suc, ◌+◌, Bool, true, ◌&&◌, eqb, List, [], ◌∷◌, length, Option, Some, None, Result, Bor, sym, refl, ap, ◌∙◌, arith}
+use Rattle.std.proofs.Common.{◌≡◌, ℕ, zero, suc, ◌+◌, Bool, true, ◌&&◌, eqb, List, [], ◌∷◌, length, Option, Some, None, Bor, sym, refl, ap, ◌∙◌, arith}
 use Rattle.std.specs.List.{slice_get}
-use Rattle.std.specs.Option.{ok_or, option_copied}
-use Rattle.std.specs.Result.{result_ok}
+use Rattle.std.specs.Option.{option_copied}
 use Rattle.std.specs.Slice.{IsItemAt}
 use Rattle.std.proofs.lemmas.Bool.{and_parts, eqb-true}
 use Rattle.std.proofs.lemmas.Option.{slice_get_past, slice_get_read}
-use Rattle.flags.specs.Codes.{about, all_codes, code_of, Decodes, TellsCode}
+use Rattle.flags.specs.Codes.{about, all_codes, code_of, TellsCode}
 use Rattle.flags.specs.declared.kinds.Code.{Code}
 use Rattle.flags.specs.declared.kinds.Code.TheVariants.{Of, Debuginfo, Optimize}
 use Rattle.flags.specs.declared.kinds.Kind.TheVariants as kind
-use Rattle.flags.specs.declared.kinds.UnknownCode.{UnknownCode}
 
 -- each code's number is its place, counted from n
 abbrev placed : ℕ → List Code → Bool
@@ -71,12 +69,5 @@ got : {X : Type 0} (xs : List X) (i : ℕ) (o : Option (Bor X)) → IsItemAt xs 
 got xs i None h = sym (slice_get_past xs i (search))
 got xs i (Some x) h = sym (slice_get_read xs (length xs) i x.now refl (search) (search))
 
-again : {C E : Type 0} (o : Option C) (e : E) → result_ok (ok_or o e) ≡ o
-again None e = refl
-again (Some c) e = refl
-
-pub decodes : (n i : ℕ) (o : Option (Bor Code)) (f : Option Code) (r : Result Code UnknownCode) → r ≡ ok_or f (record { 0 = n }) → f ≡ option_copied o → IsItemAt all_codes i o → i ≡ n → Decodes n r
-decodes n i o f r e copied at same =
-    let unknown : UnknownCode = record { 0 = n } in
-    let here = copied ∙ got all_codes i o at ∙ ap code_of same in
-    record { answer = ap result_ok e ∙ again f unknown ∙ here; value = e ∙ ap (λ g. ok_or g unknown) here; exact = tells_code n }
+pub coded : (i : ℕ) (o : Option (Bor Code)) (f : Option Code) → f ≡ option_copied o → IsItemAt all_codes i o → f ≡ code_of i
+coded i o f e at = e ∙ got all_codes i o at

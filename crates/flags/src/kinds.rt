@@ -1,7 +1,7 @@
 // The kinds of flags and the codes of options.
 ghost use Rattle.std.specs.Prelude.{◌≡◌};
 ghost use Rattle.std.specs.Option.{option_map};
-ghost use Rattle.flags.specs.Codes.{about, Decodes, home as home_of, kind_of};
+ghost use Rattle.flags.specs.Codes.{about, code_of, Decodes, home as home_of, kind_of};
 ghost use Rattle.flags.specs.Meaning.{meaning};
 
 use super::flag::Flag;
@@ -152,6 +152,13 @@ impl Code {
         Code::Optimize,
     ];
 
+    // The code at a place in the order of numbers.
+    fn at(place: usize) -> Option<Code>
+        ensures { result ≡ code_of place }
+    {
+        Code::ALL.get(place).copied()
+    }
+
     pub fn number(self) -> u8
         ensures { result ≡ (about self).number }
     {
@@ -212,12 +219,9 @@ impl TryFrom<u8> for Code {
 
     ghost try_from_gives = { Decodes };
 
-    #[tactic(auto, using(crate::proofs::Numbered::decodes))]
+    #[tactic(auto, using(crate::proofs::Numbered::tells_code))]
     fn try_from(number: u8) -> Result<Self, UnknownCode> {
-        Code::ALL
-            .get(usize::from(number))
-            .copied()
-            .ok_or(UnknownCode(number))
+        Code::at(usize::from(number)).ok_or(UnknownCode(number))
     }
 }
 

@@ -6,7 +6,14 @@ use words::{CrateType, LibraryKind, LinkKind};
 fn numbers(rt: HostRuntime) {
     for number in 0..=255u8 {
         let again = Code::try_from(number).map(Code::number);
-        assert_eq!(rt; again, if number <= 32 { Ok(number) } else { Err(UnknownCode(number)) });
+        assert_eq!(rt;
+            again,
+            if number <= 32 {
+                Ok(number)
+            } else {
+                Err(UnknownCode(number))
+            }
+        );
     }
 }
 
