@@ -7,7 +7,7 @@ ghost use Rattle.words.specs.contracts.link.ModifierEq.TheImpl.Laws.{laws-law};
 ghost use Rattle.words.specs.contracts.link.ModifierPartialEq.TheImpl as modifier;
 ghost use Rattle.flags.specs.Meaning.{known_modifiers};
 
-use words::{Modifier, next_word};
+use words::{Modifier, known_words};
 
 // Modifiers as the comma list that they came in.
 #[derive(Clone, Copy)]
@@ -22,19 +22,7 @@ impl PartialEq for ModifierList<'_> {
     ghost laws = { Prim.search (laws-law, comparing, rules) };
 
     fn eq(&self, other: &Self) -> bool {
-        let mut ours = self.text;
-        let mut theirs = other.text;
-        while let Some((m, behind_m)) = next_word::<Modifier>(ours) {
-            let Some((n, behind_n)) = next_word::<Modifier>(theirs) else {
-                return false;
-            };
-            if m != n {
-                return false;
-            }
-            ours = &ours[behind_m..];
-            theirs = &theirs[behind_n..];
-        }
-        next_word::<Modifier>(theirs).is_none()
+        known_words::<Modifier>(self.text) == known_words::<Modifier>(other.text)
     }
 }
 
