@@ -1,9 +1,8 @@
 -- Laws of the places of a byte and of the cuts there. Assumes nothing.
-use Rattle.std.proofs.Common.{◌≡◌, ℕ, zero, suc, ◌+◌, ◌<◌, ◌≢◌, Bool, true, false, cond, ◌||◌, eqb, List, [], ◌∷◌, ◌++◌, length, get_or, drop, Some, None, Option, MatchOption, IfSome, refl, ap, ◌∙◌, zero-add, arith}
+use Rattle.std.proofs.Common.{◌≡◌, ℕ, zero, suc, ◌<◌, ◌≢◌, Bool, true, false, cond, ◌||◌, eqb, List, [], ◌∷◌, ◌++◌, length, get_or, Some, None, Option, MatchOption, IfSome, refl, sym, ap, ◌∙◌, arith}
 use Rattle.std.specs.Option.{option_map}
-use Rattle.std.proofs.lemmas.List.{at_drop_more}
-use Rattle.std.proofs.lemmas.Bool.{ne_eqb, eq-eqb, eqb-true, cond-true, cond-false, or_from}
-use Rattle.text.specs.Cuts.{holds, occurrences, first_place, last_place, Halves, sides, with_front, cut_first, cut_last}
+use Rattle.std.proofs.lemmas.Bool.{ne_eqb, eq-eqb, eqb-true, or_from}
+use Rattle.text.specs.Cuts.{holds, first_place, last_place, Halves, sides, with_front, cut_first, cut_last}
 
 module _ (b : ℕ) where
   abbrev pub Absent : List ℕ → Type 0
@@ -78,13 +77,27 @@ pub first_held : (b : ℕ) (bs : List ℕ) → IfSome (first_place b bs) (Holds 
 first_held b [] = tt
 first_held b (x ∷ xs) = first_held_at b x xs (eqb x b) (first_place b xs) refl (first_held b xs)
 
-pub within : (b : ℕ) (bs : List ℕ) (place : Option ℕ) → IfSome place (Holds b bs) → IfSome place (λ i. i < length bs)
+within : (b : ℕ) (bs : List ℕ) (place : Option ℕ) → IfSome place (Holds b bs) → IfSome place (λ i. i < length bs)
 within b bs None held = tt
 within b bs (Some i) held = held.0
 
 pub last_held : (b : ℕ) (bs : List ℕ) → IfSome (last_place b bs) (Holds b bs)
 last_held b [] = tt
 last_held b (x ∷ xs) = last_held_at b x xs (eqb x b) (last_place b xs) refl (last_held b xs)
+
+-- the same of a place that is found, as a cut there asks for it and as it gives the sides
+module _ (b : ℕ) (bs : List ℕ) (place : Option ℕ) where
+  pub first_within : place ≡ first_place b bs → IfSome place (λ i. i < length bs)
+  first_within e = rw e (within b bs _ (first_held b bs))
+
+  pub last_within : place ≡ last_place b bs → IfSome place (λ i. i < length bs)
+  last_within e = rw e (within b bs _ (last_held b bs))
+
+  pub cut_first_by : (r : Option Halves) → place ≡ first_place b bs → r ≡ option_map (sides bs) place → r ≡ cut_first b bs
+  cut_first_by r e s = s ∙ ap (option_map (sides bs)) e ∙ sym (cut_first_sides b bs)
+
+  pub cut_last_by : (r : Option Halves) → place ≡ last_place b bs → r ≡ option_map (sides bs) place → r ≡ cut_last b bs
+  cut_last_by r e s = s ∙ ap (option_map (sides bs)) e ∙ sym (cut_last_sides b bs)
 
 -- a cut leaves the whole: the front, the byte, the back
 whole_at : (b x : ℕ) (xs : List ℕ) (p : Halves) (t : Bool) (o : Option Halves) → (t ≡ true → x ≡ b) → ((q : Halves) → o ≡ Some q → xs ≡ q.0 ++ b ∷ q.1) → cond t (Some ([], xs)) (option_map (with_front x) o) ≡ Some p → x ∷ xs ≡ p.0 ++ b ∷ p.1
@@ -114,13 +127,6 @@ none_at b x xs false (Some q) is rest e = absurd (let z : ◌≡◌ {A = ℕ} 0 
 pub cut_first_none : (b : ℕ) (bs : List ℕ) → cut_first b bs ≡ None → holds b bs ≡ false
 cut_first_none b [] e = refl
 cut_first_none b (x ∷ xs) e = none_at b x xs (eqb x b) (cut_first b xs) refl (cut_first_none b xs) e
-
-module _ (b : ℕ) (bs : List ℕ) (i : ℕ) (in' : i < length bs) where
-  pub occurrences_here : get_or bs i 0 ≡ b → occurrences b (drop i bs) ≡ 1 + occurrences b (drop (i + 1) bs)
-  occurrences_here e = at_drop_more (occurrences b) bs i 0 in' ∙ ap (λ n. n + occurrences b (drop (i + 1) bs)) (cond-true _ 1 0 (eq-eqb _ b e))
-
-  pub occurrences_past : (get_or bs i 0 ≡ b → ⊥) → occurrences b (drop i bs) ≡ occurrences b (drop (i + 1) bs)
-  occurrences_past ne = at_drop_more (occurrences b) bs i 0 in' ∙ ap (λ n. n + occurrences b (drop (i + 1) bs)) (cond-false _ 1 0 (ne_eqb _ b ne)) ∙ zero-add _
 
 -- no b stands behind the last one
 back_at : (b x : ℕ) (xs : List ℕ) (p : Halves) (t : Bool) (o : Option Halves) → ((q : Halves) → o ≡ Some q → holds b q.1 ≡ false) → (o ≡ None → holds b xs ≡ false) → ◌≡◌ {A = Option Halves} (elim o [ Some q ↦ Some (with_front x q) | None ↦ cond t (Some ([], xs)) None ]) (Some p) → holds b p.1 ≡ false

@@ -33,18 +33,32 @@ pub fn contains(bytes: &[u8], byte: u8) -> bool
     bytes.contains(&byte)
 }
 
+fn position(bytes: &[u8], byte: u8) -> Option<usize>
+    ensures place { result ≡ first_place byte bytes.now }
+    ensures within { IfSome result (λ at. at < length bytes.now) }
+{
+    bytes.iter().position(|b| *b == byte)
+}
+
+fn last_position(bytes: &[u8], byte: u8) -> Option<usize>
+    ensures place { result ≡ last_place byte bytes.now }
+    ensures within { IfSome result (λ at. at < length bytes.now) }
+{
+    bytes.iter().rposition(|b| *b == byte)
+}
+
 // The place of the first `byte`.
 pub fn find(bytes: &[u8], byte: u8) -> Option<usize>
     ensures { result ≡ first_place byte bytes.now }
 {
-    bytes.iter().position(|b| *b == byte)
+    position(bytes, byte)
 }
 
 // The place of the last `byte`.
 pub fn rfind(bytes: &[u8], byte: u8) -> Option<usize>
     ensures { result ≡ last_place byte bytes.now }
 {
-    bytes.iter().rposition(|b| *b == byte)
+    last_position(bytes, byte)
 }
 
 // The parts on the sides of a place, if there is one.
@@ -57,19 +71,21 @@ fn cut(bytes: &[u8], place: Option<usize>) -> Option<(&[u8], &[u8])>
 }
 
 // What stands before the first `byte`, and what stands behind it.
+#[tactic(auto, using(crate::proofs::Cutting::cut_first_by, crate::proofs::Edging::first_edges))]
 pub fn split_once(bytes: &[u8], byte: u8) -> Option<(&[u8], &[u8])>
     ensures halves { option_map both result ≡ cut_first byte bytes.now }
     ensures edges { byte < 128 → AtEdges bytes.now (cut_first byte bytes.now) }
 {
-    cut(bytes, find(bytes, byte))
+    cut(bytes, position(bytes, byte))
 }
 
 // What stands before the last `byte`, and what stands behind it.
+#[tactic(auto, using(crate::proofs::Cutting::cut_last_by, crate::proofs::Edging::last_edges))]
 pub fn rsplit_once(bytes: &[u8], byte: u8) -> Option<(&[u8], &[u8])>
     ensures halves { option_map both result ≡ cut_last byte bytes.now }
     ensures edges { byte < 128 → AtEdges bytes.now (cut_last byte bytes.now) }
 {
-    cut(bytes, rfind(bytes, byte))
+    cut(bytes, last_position(bytes, byte))
 }
 
 // The piece that begins at a place, up to the next `byte`, and the place behind that byte; a place past the bytes is their end.
