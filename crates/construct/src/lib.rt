@@ -16,12 +16,10 @@ fn whole<'a>(flag: Option<Flag<'a>>, arg: &'a [u8]) -> Option<(Flag<'a>, usize)>
     ensures answer { option_map placed result ≡ used_up arg.now (option_map meaning flag.entry) }
     ensures all { option_to_list (option_map meaning flag.entry) ≡ heads (option_map placed result) }
 {
-    match flag {
-        Some(flag) => Some((flag, arg.len())),
-        None => None,
-    }
+    Some((flag?, arg.len()))
 }
 
+// The options that take nothing have an arm each: of one arm for all of them the proof does not close alone, and wants each case written out.
 fn first_flag(code: Code, arg: &[u8]) -> Option<(Flag<'_>, usize)>
     ensures answer { option_map placed result ≡ first_made code arg.now }
     ensures all { all_made code arg.now ≡ from_first code arg.now (option_map placed result) }
