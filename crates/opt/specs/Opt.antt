@@ -7,6 +7,7 @@ use Rattle.flags.specs.Meaning.{Bytes, Meaning, meaning, known_modifiers}
 use Rattle.flags.specs.Meaning as flag
 use Rattle.flags.specs.declared.flag.Flag.{Flag}
 use Rattle.text.specs.Cuts.{Halves, cut_first, cut_last}
+use Rattle.text.specs.Texts.{text_of}
 use Rattle.utf8.specs.Utf8.{utf8}
 use Rattle.words.specs.Lists.{known, first_known}
 use Rattle.words.specs.Reading.{read}
@@ -30,10 +31,6 @@ plus = 43
 -- `"`
 abbrev pub quote : ℕ
 quote = 34
-
--- the bytes, where they are a text
-abbrev pub text_of : Bytes → Option Bytes
-text_of a = cond (utf8 a) (Some a) None
 
 -- what stands before the first b and, where there is one, what stands behind it
 abbrev pub optional_part : ℕ → Bytes → Bytes × Option Bytes

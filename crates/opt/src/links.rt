@@ -4,21 +4,17 @@ ghost use Rattle.std.specs.Option.{option_map};
 ghost use Rattle.flags.specs.Meaning.{meaning};
 ghost use Rattle.opt.specs.Opt.{held, link_kind_of, linked, link_of};
 
-use super::parts::{as_text, optional};
+use super::parts::optional;
 use flags::Flag;
-use text::split_once;
+use text::{split_once, to_str};
 use words::{LinkKind, read_word};
 
 // A kind and its list of modifiers, which is empty if there is none.
 fn kind_and_modifiers(bytes: &[u8]) -> Option<(LinkKind, &[u8])>
     ensures { option_map held result ≡ link_kind_of bytes.now }
 {
-    let (word, behind) = optional(bytes, b':');
-    let kind = read_word(word)?;
-    match behind {
-        Some(list) => Some((kind, list)),
-        None => Some((kind, &[])),
-    }
+    let (word, list) = optional(bytes, b':');
+    Some((read_word(word)?, list.unwrap_or(&[])))
 }
 
 // The flag for a name that may have a rename behind it.
@@ -37,7 +33,7 @@ fn of_kind<'a>(named: &'a [u8], kind: LinkKind, modifiers: &'a [u8]) -> Flag<'a>
 pub fn link(arg: &[u8]) -> Option<Flag<'_>>
     ensures { option_map meaning result ≡ link_of arg.now }
 {
-    let text = as_text(arg)?;
+    let text = to_str(arg)?;
     match split_once(text, b'=') {
         Some((front, named)) => {
             let (kind, modifiers) = kind_and_modifiers(front)?;

@@ -1,38 +1,27 @@
 // Options whose argument has a byte that parts it.
-ghost use Rattle.std.specs.Prelude.{◌≡◌, Some, None};
+ghost use Rattle.std.specs.Prelude.{◌≡◌};
 ghost use Rattle.std.specs.Option.{option_map};
 ghost use Rattle.flags.specs.Meaning.{meaning};
-ghost use Rattle.text.specs.Cuts.{cut_first};
-ghost use Rattle.opt.specs.Opt.{quote, closed, quoted, cfg_of, codegen_of, extern_of, extern_location_of, remap_path_prefix_of, library_search_path_of};
+ghost use Rattle.opt.specs.Opt.{quoted, cfg_of, codegen_of, extern_of, extern_location_of, remap_path_prefix_of, library_search_path_of};
 
-use super::parts::{as_text, behind, optional};
+use super::parts::optional;
 use flags::Flag;
-use text::{rsplit_once, split_once};
+use text::{rsplit_once, split_once, to_str};
 use words::{LibraryKind, read_word};
-
-// What stands behind the quote that opens a value. One byte alone is not closed.
-fn opened(value: &[u8]) -> Option<&[u8]>
-    ensures { quoted value.now ≡ elim result [ Some rest ↦ closed (cut_first quote rest.now) | None ↦ None ] }
-{
-    if value.len() < 2 {
-        return None;
-    }
-    behind(value, b'"')
-}
 
 // What stands in quotes: the next quote behind the first is the last byte.
 fn unquoted(value: &[u8]) -> Option<&[u8]>
     ensures { option_map (λ x. x.now) result ≡ quoted value.now }
 {
-    let rest = opened(value)?;
+    let rest = value.strip_prefix(b"\"")?;
     let (inner, behind) = split_once(rest, b'"')?;
-    if behind.is_empty() { Some(inner) } else { None }
+    behind.is_empty().then_some(inner)
 }
 
 pub fn cfg(arg: &[u8]) -> Option<Flag<'_>>
     ensures { option_map meaning result ≡ cfg_of arg.now }
 {
-    let (name, value) = optional(as_text(arg)?, b'=');
+    let (name, value) = optional(to_str(arg)?, b'=');
     match value {
         Some(value) => Some(Flag::Cfg {
             name,
@@ -60,7 +49,7 @@ pub fn library_search_path(arg: &[u8]) -> Option<Flag<'_>>
 pub fn codegen(arg: &[u8]) -> Option<Flag<'_>>
     ensures { option_map meaning result ≡ codegen_of arg.now }
 {
-    let (opt, value) = optional(as_text(arg)?, b'=');
+    let (opt, value) = optional(to_str(arg)?, b'=');
     Some(Flag::Codegen { opt, value })
 }
 
@@ -69,7 +58,7 @@ pub fn extern_(arg: &[u8]) -> Option<Flag<'_>>
 {
     let (name, path) = optional(arg, b'=');
     Some(Flag::Extern {
-        name: as_text(name)?,
+        name: to_str(name)?,
         path,
     })
 }
@@ -79,7 +68,7 @@ pub fn extern_location(arg: &[u8]) -> Option<Flag<'_>>
 {
     let (name, location) = split_once(arg, b'=')?;
     Some(Flag::ExternLocation {
-        name: as_text(name)?,
+        name: to_str(name)?,
         location,
     })
 }
