@@ -18,6 +18,7 @@ use Rattle.flags.specs.declared.kinds.Code.{Code}
 use Rattle.flags.specs.declared.kinds.Code.TheVariants.{Of, Debuginfo, Optimize}
 use Rattle.flags.specs.declared.kinds.Kind.TheVariants as kind
 use Rattle.opt.specs.Opt as opt
+use Rattle.text.specs.Texts.{text_of}
 use Rattle.construct.specs.Made.{all_made}
 
 -- what an option gives, if it gives anything
@@ -46,7 +47,7 @@ text_at : (make : Bytes → Meaning) (a : Bytes) (t : Bool) → utf8 a ≡ t →
 text_at make a true e good = good e
 text_at make a false e good = tt
 
-good_text : (make : Bytes → Meaning) (a : Bytes) → (utf8 a ≡ true → Sound (make a)) → Good (option_map make (opt.text_of a))
+good_text : (make : Bytes → Meaning) (a : Bytes) → (utf8 a ≡ true → Sound (make a)) → Good (option_map make (text_of a))
 good_text make a good = text_at make a (utf8 a) refl good
 
 lacking : (b : ℕ) (bs : Bytes) → holds b bs ≡ false → lacks b bs ≡ true
@@ -81,7 +82,7 @@ module _ (a : Bytes) where
   good_extern : Good (opt.extern_of a)
   good_extern = good_text _ (opt.optional_part 61 a).0 (λ u. record { texts = u; bytes = front })
 
-  location_at : (o : Option Halves) → cut_first 61 a ≡ o → Good (elim o [ Some p ↦ option_map (λ n. extern_location n p.1) (opt.text_of p.0) | None ↦ None ])
+  location_at : (o : Option Halves) → cut_first 61 a ≡ o → Good (elim o [ Some p ↦ option_map (λ n. extern_location n p.1) (text_of p.0) | None ↦ None ])
   location_at None e = tt
   location_at (Some p) e = good_text _ p.0 (λ u. record { texts = u; bytes = lacking 61 p.0 (cut_first_front 61 a p e) })
 

@@ -5,7 +5,7 @@ ghost use Rattle.flags.specs.Meaning.{meaning};
 ghost use Rattle.opt.specs.Opt.{held, link_kind_of, linked, link_of};
 
 use super::parts::optional;
-use flags::Flag;
+use flags::{Flag, ModifierList};
 use text::{split_once, to_str};
 use words::{LinkKind, read_word};
 
@@ -24,7 +24,7 @@ fn of_kind<'a>(named: &'a [u8], kind: LinkKind, modifiers: &'a [u8]) -> Flag<'a>
     let (name, rename) = optional(named, b':');
     Flag::Link {
         kind,
-        modifiers,
+        modifiers: ModifierList { text: modifiers },
         name,
         rename,
     }
