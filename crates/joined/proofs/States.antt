@@ -1,9 +1,9 @@
 -- What a joined sink keeps, from one state to the next. Assumes nothing.
 use Rattle.std.proofs.Common.{◌≡◌, ℕ, ◌+◌, ◌-◌, ◌<◌, ◌≤◌, Bool, true, false, cond, eqb, List, [], ◌∷◌, ◌++◌, length, get_or, take, drop, set, replicate, Some, None, Option, IsSome, sym, refl, ap, ◌∙◌, subst, ⊎_elim, arith}
 use Rattle.std.specs.Option.{option_map, option_to_list, is_some}
-use Rattle.std.proofs.lemmas.List.{append-nil, length-append, length-set, length-take-le, length-drop, take-set-le, take-take, take_more_set, take_all, drop-append-le, drop-drop, drop_at, drop_all, drop-replicate, length-replicate, replicate-append-replicate}
-use Rattle.std.proofs.lemmas.Slice.{take-put_mid_below, take-put_mid, drop-put_mid}
-use Rattle.std.proofs.lemmas.Bool.{both_ways, cases_lt, le-leb, lt-leb}
+use Rattle.std.proofs.lemmas.List.{append-nil, length-append, length-set, length-take-le, length-drop, take-set-le, take-take, take_more_set, take_all, drop-append-le, drop_all, length-replicate}
+use Rattle.std.proofs.lemmas.Slice.{take-put_mid_below, take-put_mid}
+use Rattle.std.proofs.lemmas.Bool.{both_ways, cases_lt, eq-eqb, ne_eqb}
 use borrow.Rule.Slice.PartMut.{put_mid}
 use Rattle.text.specs.declared.refusals.Refusal.{Refusal}
 use Rattle.text.specs.declared.refusals.Refusal.TheVariants.{CannotCarry, NoSpace}
@@ -11,12 +11,12 @@ use Rattle.text.specs.Arguments.{separator, arguments, join}
 use Rattle.text.specs.Cuts.{holds, begins, occurrences, first_place}
 use Rattle.text.proofs.Joining.{joins_back, length-arguments}
 use Rattle.sinks.specs.Sinks.{Held, uncarried, full, refusal, begun, written, begin_told, write_told, finish_told}
-use Rattle.sinks.proofs.Spaces.{one_zero_less, front_and_zeros}
+use Rattle.sinks.proofs.Spaces.{one_zero_less, length-put_mid, zeros_less, zeros_more, front_and_zeros}
 use Rattle.joined.specs.Joined.{rules_at, room, unfinished, content, filled}
-use Rattle.joined.specs.Parts.{ClearFrom, Text}
+use Rattle.joined.specs.Parts.{bytes_bar, ClearFrom, Text}
 use Rattle.joined.specs.State.{held, size, CanBegin, CanWrite, CanFinish}
 use Rattle.joined.specs.declared.state.Joined.{Joined}
-use Rattle.joined.proofs.Texts.{holds-append, no_text_room, text_room, text_no_room, join_grown, join_behind, bar_by, first_bar_is, none_in_space, end_none, end_some, args_more, begins_take, begins_whole}
+use Rattle.joined.proofs.Texts.{holds-append, no_text_room, text_room, text_no_room, join_grown, join_behind, first_bar_is, bytes_fit, end_none, end_some, args_more, begins_take, begins_whole}
 
 at_most : (t : Bool) → cond t 1 0 ≤ 1
 at_most true = omega arith
@@ -52,39 +52,38 @@ written_by_set old used b in' = record {
 
 pub written_by_copy : (old part bs : List ℕ) (used k : ℕ) → part ≡ bs → k ≡ length bs → used + length bs ≤ length old → Written old (put_mid used k old part) used bs
 written_by_copy old part bs used k is n room =
-    let long : length (put_mid used k old part) ≡ length old = simp length-append (omega (arith, length-take-le used old (omega arith), ap length is, length-drop k (drop used old), length-drop used old)) in
+    let fits : length part ≡ k = ap length is ∙ sym n in
     record {
-      long = long;
+      long = length-put_mid old part used k (omega arith) fits;
       front = λ m le. take-put_mid_below used k old part m le (omega arith);
-      all = take-put_mid used k old part (used + length bs) (omega (arith, ap length is)) (omega arith) ∙ ap (λ l. take used old ++ l) is;
-      clear = λ z.
-        let rest : length old - used - length bs ≡ length (put_mid used k old part) - (used + length bs) = omega (arith, long) in
-        drop-put_mid used k old part (used + length bs) (omega arith) (omega arith) (omega (arith, ap length is)) ∙ sym (drop-drop (length bs) used old) ∙ ap (drop (length bs)) z ∙ drop-replicate (length bs) (length old - used) 0 ∙ ap (λ n. replicate n 0) rest;
+      all = take-put_mid used k old part (used + length bs) (omega arith) (omega arith) ∙ ap (λ l. take used old ++ l) is;
+      clear = λ z. subst (λ m. ClearFrom (used + m) (put_mid used k old part)) n (zeros_less old part used k (omega arith) fits 0 z);
     }
 
 -- the used bytes from a place on became zero
-pub record Cleared (old new : List ℕ) (end : ℕ) : Type 0 where
-  pub long : length new ≡ length old
-  pub front : take end new ≡ take end old
-  pub clear : ClearFrom end new
+module _ (old part : List ℕ) (end used : ℕ) (le : end ≤ used) (within : used ≤ length old) (is : part ≡ replicate (length (take (used - end) (drop end old))) 0) where
+  abbrev k : ℕ
+  k = used - end
 
-pub cleared : (old part : List ℕ) (end used : ℕ) → end ≤ used → used ≤ length old → part ≡ replicate (length (take (used - end) (drop end old))) 0 → ClearFrom used old → Cleared old (put_mid end (used - end) old part) end
-cleared old part end used le within is z =
-    let k = used - end in
-    let size : length (take k (drop end old)) ≡ k = length-take-le k (drop end old) (omega (arith, length-drop end old)) in
-    let zeros : part ≡ replicate k 0 = is ∙ ap (λ n. replicate n 0) size in
-    let many : length part ≡ k = ap length zeros ∙ length-replicate k 0 in
-    let long : length (put_mid end k old part) ≡ length old = simp length-append (omega (arith, length-take-le end old (omega arith), many, length-drop k (drop end old), length-drop end old)) in
-    let up : end + k ≡ used = omega arith in
-    let sum : k + (length old - used) ≡ length (put_mid end k old part) - end = omega (arith, long) in
-    record {
-      long = long;
-      front = take-put_mid_below end k old part end (omega arith) (omega arith);
-      clear = drop_at (take end old) (part ++ drop k (drop end old)) end (length-take-le end old (omega arith)) ∙ (λ i. zeros i ++ (drop-drop k end old ∙ ap (λ n. drop n old) up ∙ z) i) ∙ replicate-append-replicate k (length old - used) 0 ∙ ap (λ n. replicate n 0) sum;
-    }
+  zeros : part ≡ replicate k 0
+  zeros = is ∙ ap (λ n. replicate n 0) (length-take-le k (drop end old) (omega (arith, length-drop end old)))
 
-pub text_stays : (old new : List ℕ) (end count : ℕ) → take end new ≡ take end old → Text old end count → Text new end count
-text_stays old new end count e t = record { counted = t.counted ∙ ap (λ l. length (arguments l)) (sym e); first = ap (begins separator) e ∙ t.first }
+  fits : length part ≡ k
+  fits = ap length zeros ∙ length-replicate k 0
+
+  pub clear_long : length (put_mid end k old part) ≡ length old
+  clear_long = length-put_mid old part end k (omega arith) fits
+
+  pub clear_front : take end (put_mid end k old part) ≡ take end old
+  clear_front = take-put_mid_below end k old part end (omega arith) (omega arith)
+
+  pub clear_zeros : ClearFrom used old → ClearFrom end (put_mid end k old part)
+  clear_zeros z = let up : used ≡ end + k = omega arith in zeros_more old part end k (omega arith) fits 0 zeros (subst (λ n. ClearFrom n old) up z)
+
+pub ruleset kept = (clear_long, clear_front, clear_zeros)
+
+pub text_stays : (old now : List ℕ) (end count : ℕ) → take end now ≡ take end old → Text old end count → Text now end count
+text_stays old now end count e t = record { counted = t.counted ∙ ap (λ l. length (arguments l)) (sym e); first = ap (begins separator) e ∙ t.first }
 
 module _ (s : Joined) where
   abbrev bytes : List ℕ
@@ -141,30 +140,15 @@ module _ (s : Joined) where
     all_long : length (join (arguments text ++ tail ∷ [])) ≡ s.used
     all_long = sym (ap length (s.content at is)) ∙ used_long
 
-    pub write_bar : (bs : List ℕ) → write_told (rules_at (size s)) (held s) bs ≡ option_map refusal (bar_by (size s - s.used) (first_place separator bs) (length bs))
-    write_bar bs =
-        ap (λ o. write_told (rules_at (size s)) (held_at o) bs) is
-        ∙ ap (option_map refusal) (first_bar_is (size s) (arguments text) (size s - s.used) tail bs (omega (arith, all_long, s.within)))
-
     abbrev left : ℕ
     left = size s - s.used
 
-    pub write_uncarried : (bs : List ℕ) (i : ℕ) → Some i ≡ first_place separator bs → i ≤ left → Some CannotCarry ≡ write_told (rules_at (size s)) (held s) bs
-    write_uncarried bs i e le = sym (write_bar bs ∙ ap (λ o. option_map refusal (bar_by left o (length bs))) (sym e) ∙ ap (λ t. option_map refusal (cond t (Some uncarried) (Some full))) (le-leb i left le))
+    pub write_bar : (bs : List ℕ) → write_told (rules_at (size s)) (held s) bs ≡ option_map refusal (bytes_bar left bs)
+    write_bar bs =
+        ap (λ o. write_told (rules_at (size s)) (held_at o) bs) is ∙ ap (option_map refusal) (first_bar_is (size s) (arguments text) left tail bs (omega (arith, all_long, s.within)))
 
-    pub write_full : (bs : List ℕ) → ((i : ℕ) → first_place separator bs ≡ Some i → left < i) → left < length bs → Some NoSpace ≡ write_told (rules_at (size s)) (held s) bs
-    write_full bs past more = by (first_place separator bs) refl
-      where
-        by : (o : Option ℕ) → first_place separator bs ≡ o → Some NoSpace ≡ write_told (rules_at (size s)) (held s) bs
-        by None e = sym (write_bar bs ∙ ap (λ o. option_map refusal (bar_by left o (length bs))) e ∙ ap (λ t. option_map refusal (cond t None (Some full))) (lt-leb (length bs) left more))
-        by (Some i) e = sym (write_bar bs ∙ ap (λ o. option_map refusal (bar_by left o (length bs))) e ∙ ap (λ t. option_map refusal (cond t (Some uncarried) (Some full))) (lt-leb i left (past i e)))
-
-    module _ (bs : List ℕ) (past : (i : ℕ) → first_place separator bs ≡ Some i → left < i) (fits : length bs ≤ left) where
-      pub write_none : None ≡ write_told (rules_at (size s)) (held s) bs
-      write_none = sym (write_bar bs ∙ ap (λ o. option_map refusal (bar_by left o (length bs))) (none_in_space left bs past fits).0 ∙ ap (λ t. option_map refusal (cond t None (Some full))) (le-leb (length bs) left fits))
-
-      pub can_write : CanWrite s bs
-      can_write = record { begun = ap is_some is; room = omega (arith, s.within); whole = (none_in_space left bs past fits).1 }
+    pub can_write : (bs : List ℕ) → None ≡ option_map refusal (bytes_bar left bs) → CanWrite s bs
+    can_write bs e = let fit = bytes_fit left bs e in record { begun = ap is_some is; room = omega (arith, fit.0, s.within); whole = fit.1 }
 
     told_is : finish_told (rules_at (size s)) (held s) ≡ option_map refusal (unfinished (arguments text) tail)
     told_is = ap (λ o. finish_told (rules_at (size s)) (held_at o)) is
@@ -243,19 +227,19 @@ module _ (s : Joined) (can : CanBegin s) where
   no_tail : (new : List ℕ) (used at : ℕ) → Some used ≡ Some at → used ≤ length new → drop at (take used new) ≡ []
   no_tail new used at e within = let same : used ≡ at = cc in drop_all at (take used new) (omega (arith, length-take-le used new within))
 
-  pub opened_first : s.finished ≡ 0 → Opened s s.buffer.now s.used
+  opened_first : s.finished ≡ 0 → Opened s s.buffer.now 0
   opened_first z =
       let none : s.used ≡ 0 = s.shut can.shut ∙ z in
       record {
-        within = s.within;
-        order = s.order;
-        zeros = s.zeros;
+        within = omega arith;
+        order = omega arith;
+        zeros = subst (λ n. ClearFrom n s.buffer.now) none s.zeros;
         text = s.text;
-        whole = λ at e. ap (holds separator) (no_tail s.buffer.now s.used at e s.within);
-        content = λ at e. ap (λ n. take n s.buffer.now) none ∙ (λ i. join (arguments (take (sym z i) s.buffer.now) ++ sym (no_tail s.buffer.now s.used at e s.within) i ∷ []));
+        whole = λ at e. ap (holds separator) (no_tail s.buffer.now 0 at e (omega arith));
+        content = λ at e. (λ i. join (arguments (take (sym z i) s.buffer.now) ++ sym (no_tail s.buffer.now 0 at e (omega arith)) i ∷ []));
       }
 
-  pub opened_behind : (new : List ℕ) → 0 < s.finished → Written s.buffer.now new s.finished (31 ∷ []) → Opened s new (s.finished + 1)
+  opened_behind : (new : List ℕ) → 0 < s.finished → Written s.buffer.now new s.finished (31 ∷ []) → Opened s new (s.finished + 1)
   opened_behind new some w =
       let within : s.finished + 1 ≤ length new = omega (arith, w.long, can.room some) in
       let front : take s.finished new ≡ take s.finished s.buffer.now = w.front s.finished (omega arith) in
@@ -268,3 +252,16 @@ module _ (s : Joined) (can : CanBegin s) where
         content = λ at e.
           w.all ∙ sym (join_behind (take s.finished s.buffer.now) [] (omega (arith, length-take-le s.finished s.buffer.now (omega (arith, s.order, s.within))))) ∙ (λ i. join (arguments (sym front i) ++ sym (no_tail new (s.finished + 1) at e within) i ∷ []));
       }
+
+  pub opened : (new : List ℕ) (at : ℕ) → new ≡ cond (eqb s.finished 0) s.buffer.now (set s.buffer.now s.finished 31) → at ≡ cond (eqb s.finished 0) 0 (s.finished + 1) → Opened s new at
+  opened new at p q =
+      ⊎_elim
+      (λ (some : 0 < s.finished).
+      let other : eqb s.finished 0 ≡ false = ne_eqb s.finished 0 (λ z. omega arith) in
+      let written = written_by_set s.buffer.now s.finished 31 (can.room some) in
+      rw (p, q, other) (opened_behind (set s.buffer.now s.finished 31) some written))
+      (λ (le : s.finished ≤ 0).
+      let none : s.finished ≡ 0 = omega arith in
+      let first : eqb s.finished 0 ≡ true = eq-eqb s.finished 0 none in
+      rw (p, q, first) (opened_first none))
+      (cases_lt 0 s.finished)

@@ -4,13 +4,14 @@ use Rattle.std.specs.List.{AllByRecursion}
 use Rattle.std.specs.Option.{option_map}
 use Rattle.std.proofs.ByRecursion.{All-append}
 use Rattle.std.proofs.lemmas.List.{append_assoc, length-append, nil_from_length}
-use Rattle.std.proofs.lemmas.Bool.{cases_lt, le-leb, lt-leb, eq-eqb, ne_eqb, eqb-false, or_parts}
+use Rattle.std.proofs.lemmas.Bool.{cases_lt, le-leb, lt-leb, eq-eqb, ne_eqb, or_parts, leb-true}
 use Rattle.std.proofs.lemmas.Bool.Decides.{nat_tests}
 use Rattle.text.specs.Arguments.{separator, pieces, arguments, join, Whole}
 use Rattle.text.specs.Cuts.{holds, begins, first_place}
 use Rattle.text.proofs.Joining.{joins_back, pieces_whole, cuts_back}
-use Rattle.sinks.specs.Sinks.{Bar, uncarried, full, or_else, first_bar}
+use Rattle.sinks.specs.Sinks.{Bar, uncarried, full, refusal, or_else, first_bar}
 use Rattle.joined.specs.Joined.{room, unfinished, rules_at}
+use Rattle.joined.specs.Parts.{bytes_bar}
 
 pub args_some : (bs : List ℕ) → 0 < length bs → arguments bs ≡ pieces separator bs
 args_some [] h = absurd (omega arith)
@@ -54,10 +55,9 @@ text_room size text h lt = ap (λ b. cond b None (Some full)) (le-leb (length (j
 pub text_no_room : (size : ℕ) (text : List ℕ) → 0 < length text → length text ≡ size → room size (arguments text) [] ≡ Some full
 text_no_room size text h e = ap (λ b. cond b None (Some full)) (lt-leb (length (join (arguments text ++ [] ∷ []))) size (omega (arith, text_room_length text h)))
 
--- what bars the first of the bytes that does not go in, by the space that is left, the place of the first separator, and how many bytes there are
-abbrev pub bar_by : ℕ → Option ℕ → ℕ → Option Bar
-bar_by left (Some i) n = cond (leb i left) (Some uncarried) (Some full)
-bar_by left None n = cond (leb n left) None (Some full)
+-- `bytes_bar` by the place of the first separator and how many bytes there are
+abbrev bar_by : ℕ → Option ℕ → ℕ → Option Bar
+bar_by left o n = elim o [ Some at ↦ cond (leb at left) (Some uncarried) (Some full) | None ↦ cond (leb n left) None (Some full) ]
 
 module _ (size : ℕ) (list : List (List ℕ)) where
   abbrev long : List ℕ → ℕ
@@ -75,11 +75,11 @@ module _ (size : ℕ) (list : List (List ℕ)) where
   bar_full None n = sym (ap (λ t. cond t None (Some full)) (lt-leb (suc n) 0 (omega arith)))
   bar_full (Some i) n = sym (ap (λ t. cond t (Some uncarried) (Some full)) (lt-leb (suc i) 0 (omega arith)))
 
-  pub first_bar_is : (left : ℕ) (a bs : List ℕ) → long a + left ≡ size → first_bar (rules_at size) list a bs ≡ bar_by left (first_place separator bs) (length bs)
+  pub first_bar_is : (left : ℕ) (a bs : List ℕ) → long a + left ≡ size → first_bar (rules_at size) list a bs ≡ bytes_bar left bs
   first_bar_is left a [] e = sym (ap (λ t. cond t None (Some full)) (le-leb 0 left (omega arith)))
   first_bar_is left a (b ∷ bs) e = by (eqb b separator) left e (λ less f. first_bar_is less (a ++ b ∷ []) bs f)
     where
-      by : (t : Bool) (left : ℕ) → long a + left ≡ size → ((less : ℕ) → long (a ++ b ∷ []) + less ≡ size → first_bar (rules_at size) list (a ++ b ∷ []) bs ≡ bar_by less (first_place separator bs) (length bs)) → or_else (cond t (Some uncarried) (room size list (a ++ b ∷ []))) (first_bar (rules_at size) list (a ++ b ∷ []) bs) ≡ bar_by left (cond t (Some 0) (option_map suc (first_place separator bs))) (length (b ∷ bs))
+      by : (t : Bool) (left : ℕ) → long a + left ≡ size → ((less : ℕ) → long (a ++ b ∷ []) + less ≡ size → first_bar (rules_at size) list (a ++ b ∷ []) bs ≡ bytes_bar less bs) → or_else (cond t (Some uncarried) (room size list (a ++ b ∷ []))) (first_bar (rules_at size) list (a ++ b ∷ []) bs) ≡ bar_by left (cond t (Some 0) (option_map suc (first_place separator bs))) (length (b ∷ bs))
       by true left e rest = sym (ap (λ t. cond t (Some uncarried) (Some full)) (le-leb 0 left (omega arith)))
       by false zero e rest = ap (λ t. or_else (cond t None (Some full)) (first_bar (rules_at size) list (a ++ b ∷ []) bs)) (lt-leb (long (a ++ b ∷ [])) size (omega (arith, grown a b))) ∙ bar_full (first_place separator bs) (length bs)
       by false (suc left) e rest = ap (λ t. or_else (cond t None (Some full)) (first_bar (rules_at size) list (a ++ b ∷ []) bs)) (le-leb (long (a ++ b ∷ [])) size (omega (arith, grown a b))) ∙ rest left (omega (arith, grown a b)) ∙ bar_more left (first_place separator bs) (length bs)
@@ -98,13 +98,20 @@ found b (x ∷ xs) = more (eqb x b) (length xs) (holds b xs) (first_place b xs) 
     more false n h None f = f
     more false n h (Some i) f = omega arith
 
--- a separator that stands only past the space is none, where all of the bytes have space
-pub none_in_space : (left : ℕ) (bs : List ℕ) → ((i : ℕ) → first_place separator bs ≡ Some i → left < i) → length bs ≤ left → (first_place separator bs ≡ None) × (holds separator bs ≡ false)
-none_in_space left bs past fits = by (first_place separator bs) refl (found separator bs)
+pub bytes_fit : (left : ℕ) (bs : List ℕ) → None ≡ option_map refusal (bytes_bar left bs) → (length bs ≤ left) × (holds separator bs ≡ false)
+bytes_fit left bs = by (first_place separator bs) (found separator bs)
   where
-    by : (o : Option ℕ) → first_place separator bs ≡ o → Found (length bs) (holds separator bs) o → (o ≡ None) × (holds separator bs ≡ false)
-    by None e f = (refl, f)
-    by (Some i) e f = absurd (omega (arith, past i e))
+    by : (o : Option ℕ) → Found (length bs) (holds separator bs) o → None ≡ option_map refusal (bar_by left o (length bs)) → (length bs ≤ left) × (holds separator bs ≡ false)
+    by None f = fits (leb (length bs) left) refl
+      where
+        fits : (t : Bool) → leb (length bs) left ≡ t → None ≡ option_map refusal (cond t None (Some full)) → (length bs ≤ left) × (holds separator bs ≡ false)
+        fits true is e = (leb-true (length bs) left is, f)
+        fits false is e = cc
+    by (Some at) f = never (leb at left)
+      where
+        never : (t : Bool) → None ≡ option_map refusal (cond t (Some uncarried) (Some full)) → (length bs ≤ left) × (holds separator bs ≡ false)
+        never true e = cc
+        never false e = cc
 
 -- the end of an argument, by the length of the whole text
 pub end_none : (list : List (List ℕ)) (a : List ℕ) → 0 < length (join (list ++ a ∷ [])) → unfinished list a ≡ None

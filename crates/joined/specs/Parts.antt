@@ -1,7 +1,16 @@
 -- What the parts of the joined sink tell it, over the bytes of its buffer. It adds no meaning.
-use Rattle.std.specs.Prelude.{◌≡◌, ℕ, ◌-◌, ◌≤◌, false, List, length, take, drop, replicate}
+use Rattle.std.specs.Prelude.{◌≡◌, ℕ, ◌-◌, ◌≤◌, false, cond, List, length, take, drop, replicate, Some, None, Option, nat_le}
 use Rattle.text.specs.Arguments.{separator, arguments}
-use Rattle.text.specs.Cuts.{begins}
+use Rattle.text.specs.Cuts.{begins, first_place}
+use Rattle.sinks.specs.Sinks.{Bar, uncarried, full}
+
+-- what bars the first of the bytes that does not go in, with space for so many
+abbrev pub bytes_bar : ℕ → List ℕ → Option Bar
+bytes_bar left bs =
+    elim (first_place separator bs) [
+      Some at ↦ cond (nat_le at left) (Some uncarried) (Some full)
+      | None ↦ cond (nat_le (length bs) left) None (Some full)
+    ]
 
 -- from a place on all is zero
 abbrev pub ClearFrom : ℕ → List ℕ → Type 0

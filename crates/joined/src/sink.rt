@@ -27,6 +27,7 @@ impl<'a> Joined<'a> {
     }
 
     // The text so far. Where no argument is open, its arguments are those that the sink holds.
+    #[tactic(auto, using(crate::proofs::States::content_is))]
     pub fn content(&self) -> &[u8]
         ensures answer { result.now ≡ content (held self.now) }
         ensures reads_back { (held self.now).pending ≡ None → arguments result.now ≡ (held self.now).list }
@@ -35,11 +36,12 @@ impl<'a> Joined<'a> {
     }
 
     // All of the buffer: the text, and zeros behind it.
+    #[tactic(auto, using(crate::proofs::States::every_byte))]
     pub fn buffer(&self) -> &[u8]
         ensures lends { result.now ≡ self.now.buffer.now }
         ensures every_byte { self.now.buffer.now ≡ filled (size self.now) (content (held self.now)) }
     {
-        self.buffer
+        &self.buffer[..]
     }
 }
 

@@ -1,13 +1,38 @@
 // The steps of a joined sink, each from one good state to another, and what has to be checked before each.
-ghost use Rattle.std.specs.Prelude.{◌≡◌, ◌<◌, ◌≤◌, take, Some, None, IfOk};
-ghost use Rattle.text.specs.Arguments.{arguments};
-ghost use Rattle.sinks.specs.Sinks.{verdict, begin_told, write_told, finish_told, withdraw_told, cut_told, begun, written};
+ghost use Rattle.std.specs.Prelude.{◌≡◌, ◌+◌, ◌<◌, ◌≤◌, cond, length, take, Some, None, ◌==◌, slice_set, IfOk};
+ghost use Rattle.text.specs.Arguments.{separator, arguments};
+ghost use Rattle.std.specs.Option.{option_map};
+ghost use Rattle.sinks.specs.Sinks.{verdict, refusal, begin_told, write_told, finish_told, withdraw_told, cut_told, begun, written};
 ghost use Rattle.joined.specs.Joined.{rules_at};
-ghost use Rattle.joined.specs.Parts.{Text, Front};
+ghost use Rattle.joined.specs.Parts.{bytes_bar, Text, Front};
 ghost use Rattle.joined.specs.State.{held, size, lasting, CanBegin, CanWrite, CanFinish};
 
 use super::state::Joined;
 use text::{Refusal, SEPARATOR, find};
+
+// Writes a separator behind a text, unless that is empty. Answers where the next argument starts.
+fn separate(bytes: &mut [u8], end: usize) -> usize
+    requires { 0 < end → end < length bytes.old }
+    ensures text { bytes.new ≡ cond (end == 0) bytes.old (slice_set bytes.old end separator) }
+    ensures place { result ≡ cond (end == 0) 0 (end + 1) }
+{
+    if end == 0 {
+        return 0;
+    }
+    bytes[end] = SEPARATOR;
+    end + 1
+}
+
+// Declines bytes of which one does not go in, with space for so many. A separator needs none, so it is told first where it stands before the end of the space.
+fn check_bytes(bytes: &[u8], left: usize) -> Result<(), Refusal>
+    ensures { verdict result ≡ option_map refusal (bytes_bar left bytes.now) }
+{
+    match find(bytes, SEPARATOR) {
+        Some(at) if at <= left => Err(Refusal::CannotCarry),
+        None if bytes.len() <= left => Ok(()),
+        _ => Err(Refusal::NoSpace),
+    }
+}
 
 // The clause `stays` compares a sink before and after, so no type can carry it.
 impl<'a> Joined<'a> {
@@ -48,25 +73,18 @@ impl<'a> Joined<'a> {
         ensures holds { held self.new ≡ begun None (held self.old) }
         ensures stays { lasting self.new ≡ lasting self.old }
     {
-        if self.finished > 0 {
-            self.buffer[self.finished] = SEPARATOR;
-            self.used = self.finished + 1;
-        }
-        self.start = Some(self.used);
+        let at = separate(self.buffer, self.finished);
+        self.start = Some(at);
+        self.used = at;
     }
 
-    // Declines bytes of which one does not go into the open argument. Those before the first separator may leave no space for it.
+    // Declines bytes of which one does not go into the open argument.
     pub(crate) fn check_write(&self, bytes: &[u8]) -> Result<(), Refusal>
         ensures answer { verdict result ≡ write_told (rules_at (size self.now)) (held self.now) bytes.now }
         ensures can { verdict result ≡ None → CanWrite self.now bytes.now }
     {
         self.check_open()?;
-        let left = self.buffer.len() - self.used;
-        match find(bytes, SEPARATOR) {
-            Some(at) if at <= left => Err(Refusal::CannotCarry),
-            _ if bytes.len() > left => Err(Refusal::NoSpace),
-            _ => Ok(()),
-        }
+        check_bytes(bytes, self.buffer.len() - self.used)
     }
 
     // Adds bytes to the open argument.
@@ -109,6 +127,7 @@ impl<'a> Joined<'a> {
     }
 
     // Keeps so many arguments, whose text ends at a place, and drops what is behind it.
+    #[tactic(auto, using(crate::proofs::States::kept))]
     pub(crate) fn keep(&mut self, end: usize, count: usize)
         requires { (end ≤ self.old.used) × Text self.old.buffer.now end count }
         ensures holds { held self.new ≡ record { list = arguments (take end self.old.buffer.now); pending = None } }

@@ -1,5 +1,0 @@
-use Rattle.joined.proofs.States.{every_byte}
-use Rattle.joined.proofs.state.Joined.buffer.Goals as goal
-
-pub returns-clause-every_byte : goal.returns-clause-every_byte
-returns-clause-every_byte c = every_byte c.args.self.now
