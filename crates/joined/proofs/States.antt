@@ -265,3 +265,5 @@ module _ (s : Joined) (can : CanBegin s) where
       let first : eqb s.finished 0 ≡ true = eq-eqb s.finished 0 none in
       rw (p, q, first) (opened_first none))
       (cases_lt 0 s.finished)
+
+pub ruleset room_told = (begin_none, begin_full)

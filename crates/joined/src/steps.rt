@@ -56,6 +56,7 @@ impl<'a> Joined<'a> {
     }
 
     // Declines one more argument where one is open, or where no space is left for its separator.
+    #[tactic(auto, using(crate::proofs::States::room_told))]
     pub(crate) fn check_begin(&self) -> Result<(), Refusal>
         ensures answer { verdict result ≡ begin_told (rules_at (size self.now)) (held self.now) }
         ensures can { verdict result ≡ None → CanBegin self.now }

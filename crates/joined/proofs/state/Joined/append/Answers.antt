@@ -1,4 +1,4 @@
-use Rattle.std.proofs.Common.{◌≡◌, ◌+◌, ◌-◌, length, refl, arith}
+use Rattle.std.proofs.Common.{◌≡◌, ◌+◌, ◌-◌, length, arith}
 use Rattle.joined.proofs.States as states
 use Rattle.joined.proofs.state.Joined.append.Goals as goal
 
@@ -6,8 +6,7 @@ pub invariant_of-self : goal.invariant_of-self
 invariant_of-self c =
     let s = c.args.self.now in
     let bs = c.args.bytes.now in
-    let k : s.used + length bs - s.used ≡ length bs = omega arith in
-    let w = states.written_by_copy s.buffer.now _ bs s.used _ c.copy_from_slice.ensures.after k c.requires.room in
+    let w = states.written_by_copy s.buffer.now _ bs s.used _ c.copy_from_slice.ensures.after (omega arith) c.requires.room in
     record {
       within = states.write_within s bs c.requires _ w;
       order = omega arith;
@@ -22,6 +21,4 @@ invariant_of-self c =
 pub returns-clause-holds : goal.returns-clause-holds
 returns-clause-holds c =
     let s = c.args.self.now in
-    let bs = c.args.bytes.now in
-    let k : s.used + length bs - s.used ≡ length bs = omega arith in
-    states.write_holds s bs c.requires _ (states.written_by_copy s.buffer.now _ bs s.used _ c.copy_from_slice.ensures.after k c.requires.room)
+    states.write_holds s _ c.requires _ (states.written_by_copy s.buffer.now _ _ s.used _ c.copy_from_slice.ensures.after (omega arith) c.requires.room)
