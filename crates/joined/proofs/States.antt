@@ -1,5 +1,5 @@
 -- What a joined sink keeps, from one state to the next. Assumes nothing.
-use Rattle.std.proofs.Common.{◌≡◌, ℕ, ◌+◌, ◌-◌, ◌<◌, ◌≤◌, Bool, true, false, cond, eqb, List, [], ◌∷◌, ◌++◌, length, get_or, take, drop, set, replicate, Some, None, Option, IsSome, sym, refl, ap, ◌∙◌, subst, ⊎_elim, arith}
+use Rattle.std.proofs.Common.{◌≡◌, ℕ, ◌+◌, ◌-◌, ◌<◌, ◌≤◌, Bool, true, false, cond, eqb, List, [], ◌∷◌, ◌++◌, length, get_or, take, drop, set, replicate, Some, None, Option, IsSome, Ok, Err, Result, OnOk, sym, refl, ap, ◌∙◌, subst, ⊎_elim, arith}
 use Rattle.std.specs.Option.{option_map, option_to_list, is_some}
 use Rattle.std.proofs.lemmas.List.{append-nil, length-append, length-set, length-take-le, length-drop, take-set-le, take-take, take_more_set, take_all, drop-append-le, drop_all, length-replicate}
 use Rattle.std.proofs.lemmas.Slice.{take-put_mid_below, take-put_mid}
@@ -10,7 +10,7 @@ use Rattle.text.specs.declared.refusals.Refusal.TheVariants.{CannotCarry, NoSpac
 use Rattle.text.specs.Arguments.{separator, arguments, join}
 use Rattle.text.specs.Cuts.{holds, begins, occurrences, first_place}
 use Rattle.text.proofs.Joining.{joins_back, length-arguments}
-use Rattle.sinks.specs.Sinks.{Held, uncarried, full, refusal, begun, written, begin_told, write_told, finish_told}
+use Rattle.sinks.specs.Sinks.{Held, verdict, uncarried, full, refusal, begun, written, begin_told, write_told, finish_told}
 use Rattle.sinks.proofs.Spaces.{one_zero_less, length-put_mid, zeros_less, zeros_more, front_and_zeros}
 use Rattle.joined.specs.Joined.{rules_at, room, unfinished, content, filled}
 use Rattle.joined.specs.Parts.{bytes_bar, ClearFrom, Text}
@@ -147,8 +147,9 @@ module _ (s : Joined) where
     write_bar bs =
         ap (λ o. write_told (rules_at (size s)) (held_at o) bs) is ∙ ap (option_map refusal) (first_bar_is (size s) (arguments text) left tail bs (omega (arith, all_long, s.within)))
 
-    pub can_write : (bs : List ℕ) → None ≡ option_map refusal (bytes_bar left bs) → CanWrite s bs
-    can_write bs e = let fit = bytes_fit left bs e in record { begun = ap is_some is; room = omega (arith, fit.0, s.within); whole = fit.1 }
+    pub can_write : {A : Type 0} (bs : List ℕ) (r : Result A Refusal) → verdict r ≡ option_map refusal (bytes_bar left bs) → OnOk r (CanWrite s bs)
+    can_write bs (Ok x) e = let fit = bytes_fit left bs e in record { begun = ap is_some is; room = omega (arith, fit.0, s.within); whole = fit.1 }
+    can_write bs (Err x) e = tt
 
     told_is : finish_told (rules_at (size s)) (held s) ≡ option_map refusal (unfinished (arguments text) tail)
     told_is = ap (λ o. finish_told (rules_at (size s)) (held_at o)) is

@@ -1,5 +1,5 @@
 // The steps of a joined sink, each from one good state to another, and what has to be checked before each.
-ghost use Rattle.std.specs.Prelude.{◌≡◌, ◌+◌, ◌<◌, ◌≤◌, cond, length, take, Some, None, ◌==◌, slice_set, IfOk};
+ghost use Rattle.std.specs.Prelude.{◌≡◌, ◌+◌, ◌<◌, ◌≤◌, cond, length, take, Some, None, ◌==◌, slice_set, IfOk, OnOk};
 ghost use Rattle.text.specs.Arguments.{separator, arguments};
 ghost use Rattle.std.specs.Option.{option_map};
 ghost use Rattle.sinks.specs.Sinks.{verdict, refusal, begin_told, write_told, finish_told, withdraw_told, cut_told, begun, written};
@@ -47,7 +47,7 @@ impl<'a> Joined<'a> {
     // Declines a call that no open argument allows.
     pub(crate) fn check_shut(&self) -> Result<(), Refusal>
         ensures answer { verdict result ≡ cut_told (held self.now) }
-        ensures shut { verdict result ≡ None → self.now.start ≡ None }
+        ensures shut { OnOk result (self.now.start ≡ None) }
     {
         if self.start.is_some() {
             return Err(Refusal::OutOfTurn);
@@ -59,7 +59,7 @@ impl<'a> Joined<'a> {
     #[tactic(auto, using(crate::proofs::States::room_told))]
     pub(crate) fn check_begin(&self) -> Result<(), Refusal>
         ensures answer { verdict result ≡ begin_told (rules_at (size self.now)) (held self.now) }
-        ensures can { verdict result ≡ None → CanBegin self.now }
+        ensures can { OnOk result (CanBegin self.now) }
     {
         self.check_shut()?;
         if self.finished > 0 && self.finished == self.buffer.len() {
@@ -82,7 +82,7 @@ impl<'a> Joined<'a> {
     // Declines bytes of which one does not go into the open argument.
     pub(crate) fn check_write(&self, bytes: &[u8]) -> Result<(), Refusal>
         ensures answer { verdict result ≡ write_told (rules_at (size self.now)) (held self.now) bytes.now }
-        ensures can { verdict result ≡ None → CanWrite self.now bytes.now }
+        ensures can { OnOk result (CanWrite self.now bytes.now) }
     {
         self.check_open()?;
         check_bytes(bytes, self.buffer.len() - self.used)
@@ -102,7 +102,7 @@ impl<'a> Joined<'a> {
     // Declines the end of an argument where none is open, or where it is an empty first one.
     pub(crate) fn check_finish(&self) -> Result<(), Refusal>
         ensures answer { verdict result ≡ finish_told (rules_at (size self.now)) (held self.now) }
-        ensures can { verdict result ≡ None → CanFinish self.now }
+        ensures can { OnOk result (CanFinish self.now) }
     {
         self.check_open()?;
         if self.used == 0 {
