@@ -251,7 +251,7 @@ module _ (s : Joined) (can : CanBegin s) where
         text = text_stays s.buffer.now new s.finished s.count front s.text;
         whole = λ at e. ap (holds separator) (no_tail new (s.finished + 1) at e within);
         content = λ at e.
-          w.all ∙ sym (join_behind (take s.finished s.buffer.now) [] (omega (arith, length-take-le s.finished s.buffer.now (omega (arith, s.order, s.within))))) ∙ (λ i. join (arguments (sym front i) ++ sym (no_tail new (s.finished + 1) at e within) i ∷ []));
+            w.all ∙ sym (join_behind (take s.finished s.buffer.now) [] (omega (arith, length-take-le s.finished s.buffer.now (omega (arith, s.order, s.within))))) ∙ (λ i. join (arguments (sym front i) ++ sym (no_tail new (s.finished + 1) at e within) i ∷ []));
       }
 
   pub opened : (new : List ℕ) (at : ℕ) → new ≡ cond (eqb s.finished 0) s.buffer.now (set s.buffer.now s.finished 31) → at ≡ cond (eqb s.finished 0) 0 (s.finished + 1) → Opened s new at

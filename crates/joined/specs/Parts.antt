@@ -8,7 +8,7 @@ use Rattle.sinks.specs.Sinks.{Bar, uncarried, full}
 abbrev pub bytes_bar : ℕ → List ℕ → Option Bar
 bytes_bar left bs =
     elim (first_place separator bs) [
-      Some at ↦ cond (nat_le at left) (Some uncarried) (Some full)
+      | Some at ↦ cond (nat_le at left) (Some uncarried) (Some full)
       | None ↦ cond (nat_le (length bs) left) None (Some full)
     ]
 

@@ -1,16 +1,10 @@
 -- A borrowed space whose front is in use and whose rest is zero. Assumes nothing.
-use Rattle.std.proofs.Common.{◌≡◌, ℕ, ◌+◌, ◌-◌, ◌<◌, ◌≤◌, List, ◌∷◌, ◌++◌, length, take, drop, set, replicate, sym, ap, ◌∙◌, arith}
+use Rattle.std.proofs.Common.{◌≡◌, ℕ, ◌+◌, ◌-◌, ◌<◌, ◌≤◌, List, ◌++◌, length, take, drop, set, replicate, sym, ap, ◌∙◌, arith}
 use Rattle.std.proofs.lemmas.Slice.{drop-put_mid}
 use borrow.Rule.Slice.PartMut.{put_mid}
-use Rattle.std.proofs.lemmas.List.{length-append, length-set, length-take-le, length-drop, take-append-drop, drop-drop, drop_at, drop-set, drop-set-lt, drop-replicate, replicate-append-replicate}
+use Rattle.std.proofs.lemmas.List.{length-append, length-set, length-take-le, length-drop, take-append-drop, drop-drop, drop_at, drop-set-lt, drop-replicate, replicate-append-replicate}
 
 module _ {X : Type 0} (xs : List X) (at : ℕ) (in' : at < length xs) (zero : X) where
-  -- one place more is zero
-  pub one_zero_more : drop (at + 1) xs ≡ replicate (length xs - (at + 1)) zero → drop at (set xs at zero) ≡ replicate (length (set xs at zero) - at) zero
-  one_zero_more z =
-      let sum : 1 + (length xs - (at + 1)) ≡ length (set xs at zero) - at = omega (arith, length-set xs at zero) in
-      drop-set xs at zero in' ∙ ap (λ l. zero ∷ l) z ∙ replicate-append-replicate 1 (length xs - (at + 1)) zero ∙ ap (λ n. replicate n zero) sum
-
   -- one place more is used
   pub one_zero_less : (x : X) → drop at xs ≡ replicate (length xs - at) zero → drop (at + 1) (set xs at x) ≡ replicate (length (set xs at x) - (at + 1)) zero
   one_zero_less x z =
