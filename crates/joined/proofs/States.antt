@@ -1,16 +1,16 @@
 -- What a joined sink keeps, from one state to the next. Assumes nothing.
-use Rattle.std.proofs.Common.{◌≡◌, ℕ, ◌+◌, ◌-◌, ◌<◌, ◌≤◌, Bool, true, false, cond, eqb, List, [], ◌∷◌, ◌++◌, length, get_or, take, drop, set, replicate, Some, None, Option, IsSome, Ok, Err, Result, OnOk, sym, refl, ap, ◌∙◌, subst, ⊎_elim, arith}
+use Rattle.std.proofs.Common.{◌≡◌, ℕ, ◌+◌, ◌-◌, ◌<◌, ◌≤◌, Bool, true, false, cond, eqb, List, [], ◌∷◌, ◌++◌, length, take, drop, set, replicate, Some, None, Option, Ok, Err, Result, OnOk, sym, refl, ap, ◌∙◌, subst, ⊎_elim, arith}
 use Rattle.std.specs.Option.{option_map, option_to_list, is_some}
-use Rattle.std.proofs.lemmas.List.{append-nil, length-append, length-set, length-take-le, length-drop, take-set-le, take-take, take_more_set, take_all, drop-append-le, drop_all, length-replicate}
+use Rattle.std.proofs.lemmas.List.{append-nil, length-append, length-set, length-take-le, length-drop, take-set-le, take_more_set, drop-append-le, drop_all, length-replicate}
 use Rattle.std.proofs.lemmas.Slice.{take-put_mid_below, take-put_mid}
 use Rattle.std.proofs.lemmas.Bool.{both_ways, cases_lt, eq-eqb, ne_eqb}
 use borrow.Rule.Slice.PartMut.{put_mid}
 use Rattle.text.specs.declared.refusals.Refusal.{Refusal}
 use Rattle.text.specs.declared.refusals.Refusal.TheVariants.{CannotCarry, NoSpace}
 use Rattle.text.specs.Arguments.{separator, arguments, join}
-use Rattle.text.specs.Cuts.{holds, begins, occurrences, first_place}
+use Rattle.text.specs.Cuts.{holds, begins, occurrences}
 use Rattle.text.proofs.Joining.{joins_back, length-arguments}
-use Rattle.sinks.specs.Sinks.{Held, verdict, uncarried, full, refusal, begun, written, begin_told, write_told, finish_told}
+use Rattle.sinks.specs.Sinks.{Held, verdict, refusal, written, begin_told, write_told, finish_told}
 use Rattle.sinks.proofs.Spaces.{one_zero_less, length-put_mid, zeros_less, zeros_more, front_and_zeros}
 use Rattle.joined.specs.Joined.{rules_at, room, unfinished, content, filled}
 use Rattle.joined.specs.Parts.{bytes_bar, ClearFrom, Text}

@@ -1,5 +1,5 @@
 -- What a joined sink means. Assumes nothing.
-use Rattle.std.specs.Prelude.{◌≡◌, ℕ, ◌+◌, ◌-◌, ◌<◌, ◌≤◌, false, List, ◌++◌, length, take, drop, None, IsSome}
+use Rattle.std.specs.Prelude.{◌≡◌, ℕ, ◌+◌, ◌<◌, ◌≤◌, false, List, ◌++◌, length, take, drop, None, IsSome}
 use Rattle.std.specs.Borrow.{GName}
 use Rattle.std.specs.Option.{option_map, option_to_list}
 use Rattle.text.specs.Arguments.{separator, arguments}

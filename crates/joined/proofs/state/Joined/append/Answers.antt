@@ -1,4 +1,4 @@
-use Rattle.std.proofs.Common.{◌≡◌, ◌+◌, ◌-◌, length, arith}
+use Rattle.std.proofs.Common.{arith}
 use Rattle.joined.proofs.States as states
 use Rattle.joined.proofs.state.Joined.append.Goals as goal
 

@@ -1,4 +1,4 @@
-use Rattle.std.proofs.Common.{sym, ap, ◌∙◌}
+use Rattle.std.proofs.Common.{sym, ◌∙◌}
 use Rattle.joined.proofs.States.{write_bar, can_write}
 use Rattle.joined.proofs.state.Joined.check_write.Goals as goal
 
