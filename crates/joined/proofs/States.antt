@@ -6,17 +6,17 @@ use Rattle.std.proofs.lemmas.Slice.{take-put_mid_below, take-put_mid}
 use Rattle.std.proofs.lemmas.Bool.{both_ways, cases_lt, eq-eqb, ne_eqb}
 use borrow.Rule.Slice.PartMut.{put_mid}
 use Rattle.text.specs.declared.refusals.Refusal.{Refusal}
-use Rattle.text.specs.declared.refusals.Refusal.TheVariants.{CannotCarry, NoSpace}
+use Rattle.text.specs.declared.refusals.Refusal.TheVariants.{NoSpace}
 use Rattle.text.specs.Arguments.{separator, arguments, join}
 use Rattle.text.specs.Cuts.{holds, begins, occurrences}
 use Rattle.text.proofs.Joining.{joins_back, length-arguments}
-use Rattle.sinks.specs.Sinks.{Held, verdict, refusal, written, begin_told, write_told, finish_told}
+use Rattle.sinks.specs.Sinks.{Held, verdict, refusal, written, begin_told, write_told}
 use Rattle.sinks.proofs.Spaces.{one_zero_less, length-put_mid, zeros_less, zeros_more, front_and_zeros}
-use Rattle.joined.specs.Joined.{rules_at, room, unfinished, content, filled}
+use Rattle.joined.specs.Joined.{rules_at, room, content, filled}
 use Rattle.joined.specs.Parts.{bytes_bar, ClearFrom, Text}
 use Rattle.joined.specs.State.{held, size, CanBegin, CanWrite, CanFinish}
 use Rattle.joined.specs.declared.state.Joined.{Joined}
-use Rattle.joined.proofs.Texts.{holds-append, no_text_room, text_room, text_no_room, join_grown, join_behind, first_bar_is, bytes_fit, end_none, end_some, args_more, begins_take, begins_whole}
+use Rattle.joined.proofs.Texts.{holds-append, no_text_room, text_room, text_no_room, join_grown, join_behind, first_bar_is, bytes_fit, args_more, begins_take, begins_whole}
 
 at_most : (t : Bool) → cond t 1 0 ≤ 1
 at_most true = omega arith
@@ -150,15 +150,6 @@ module _ (s : Joined) where
     pub can_write : {A : Type 0} (bs : List ℕ) (r : Result A Refusal) → verdict r ≡ option_map refusal (bytes_bar left bs) → OnOk r (CanWrite s bs)
     can_write bs (Ok x) e = let fit = bytes_fit left bs e in record { begun = ap is_some is; room = omega (arith, fit.0, s.within); whole = fit.1 }
     can_write bs (Err x) e = tt
-
-    told_is : finish_told (rules_at (size s)) (held s) ≡ option_map refusal (unfinished (arguments text) tail)
-    told_is = ap (λ o. finish_told (rules_at (size s)) (held_at o)) is
-
-    pub finish_some : s.used ≡ 0 → Some CannotCarry ≡ finish_told (rules_at (size s)) (held s)
-    finish_some z = sym (told_is ∙ ap (option_map refusal) ((end_some text tail (all_long ∙ z)).1))
-
-    pub finish_none : 0 < s.used → None ≡ finish_told (rules_at (size s)) (held s)
-    finish_none h = sym (told_is ∙ ap (option_map refusal) (end_none (arguments text) tail (omega (arith, all_long))))
 
     args : 0 < s.used → arguments all ≡ arguments text ++ tail ∷ []
     args h = ap arguments (s.content at is) ∙ args_more text tail (s.whole at is) (omega (arith, all_long))

@@ -10,7 +10,7 @@ use Rattle.text.specs.Arguments.{separator, pieces, arguments, join, Whole}
 use Rattle.text.specs.Cuts.{holds, begins, first_place}
 use Rattle.text.proofs.Joining.{joins_back, pieces_whole, cuts_back}
 use Rattle.sinks.specs.Sinks.{Bar, uncarried, full, refusal, or_else, first_bar}
-use Rattle.joined.specs.Joined.{room, unfinished, rules_at}
+use Rattle.joined.specs.Joined.{room, rules_at}
 use Rattle.joined.specs.Parts.{bytes_bar}
 
 pub args_some : (bs : List ℕ) → 0 < length bs → arguments bs ≡ pieces separator bs
@@ -113,17 +113,6 @@ bytes_fit left bs = by (first_place separator bs) (found separator bs)
         never true e = cc
         never false e = cc
 
--- the end of an argument, by the length of the whole text
-pub end_none : (list : List (List ℕ)) (a : List ℕ) → 0 < length (join (list ++ a ∷ [])) → unfinished list a ≡ None
-end_none [] [] h = absurd (omega arith)
-end_none [] (b ∷ bs) h = refl
-end_none (p ∷ ps) a h = refl
-
-pub end_some : (text a : List ℕ) → length (join (arguments text ++ a ∷ [])) ≡ 0 → (arguments text ≡ []) × (unfinished (arguments text) a ≡ Some uncarried)
-end_some [] [] h = (refl, refl)
-end_some [] (b ∷ bs) h = absurd (omega arith)
-end_some (x ∷ xs) a h = let long : length (join (arguments (x ∷ xs) ++ a ∷ [])) ≡ length (x ∷ xs) + length (separator ∷ a) = ap length (join_behind (x ∷ xs) a (omega arith)) ∙ length-append (x ∷ xs) (separator ∷ a) in absurd (omega arith)
-
 -- the arguments of a text with one more behind it
 pub args_more : (text a : List ℕ) → Whole separator a → 0 < length (join (arguments text ++ a ∷ [])) → arguments (join (arguments text ++ a ∷ [])) ≡ arguments text ++ a ∷ []
 args_more text a w h =
@@ -136,10 +125,6 @@ begins_take b zero n xs h le = absurd (omega arith)
 begins_take b (suc m) zero xs h le = absurd (omega arith)
 begins_take b (suc m) (suc n) [] h le = refl
 begins_take b (suc m) (suc n) (x ∷ xs) h le = refl
-
-pub begins_front : (b m n : ℕ) (xs : List ℕ) → m ≤ n → begins b (take n xs) ≡ false → begins b (take m xs) ≡ false
-begins_front b zero n xs le e = refl
-begins_front b (suc m) n xs le e = sym (begins_take b (suc m) n xs (omega arith) le) ∙ e
 
 pub holds-append : (b : ℕ) (xs ys : List ℕ) → holds b xs ≡ false → holds b ys ≡ false → holds b (xs ++ ys) ≡ false
 holds-append b [] ys p q = q

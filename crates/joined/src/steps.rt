@@ -23,7 +23,7 @@ fn separate(bytes: &mut [u8], end: usize) -> usize
     end + 1
 }
 
-// Declines bytes of which one does not go in, with space for so many. A separator needs none, so it is told first where it stands before the end of the space.
+// Declines bytes of which one does not go in, with space for so many. A separator right behind the space is told as one.
 fn check_bytes(bytes: &[u8], left: usize) -> Result<(), Refusal>
     ensures { verdict result ≡ option_map refusal (bytes_bar left bytes.now) }
 {
@@ -34,7 +34,7 @@ fn check_bytes(bytes: &[u8], left: usize) -> Result<(), Refusal>
     }
 }
 
-// The clause `stays` compares a sink before and after, so no type can carry it.
+// The clause `stays` compares a sink before and after a call, so no type can carry it.
 impl<'a> Joined<'a> {
     // Where the open argument starts. Declines a call that asks for one where none is open.
     pub(crate) fn check_open(&self) -> Result<usize, Refusal>

@@ -1,4 +1,4 @@
-// Whole arguments and lists of them, put into any sink.
+// Whole arguments and lists of them, put into any sink. The clause `stays` of each is the one of `Sink`.
 ghost use Rattle.std.specs.Prelude.{◌≡◌, [], ◌∷◌, map, None};
 ghost use Rattle.sinks.specs.Sinks.{verdict, finished};
 ghost use Rattle.sinks.specs.Putting.{put_told, put as put_in, end_told, kept_or_cut};
