@@ -1,4 +1,3 @@
-mod Backing
-mod Checking
+mod Fronts
 mod States
 mod Texts

@@ -1,15 +1,17 @@
 -- A text, and an argument behind it. Assumes nothing.
-use Rattle.std.proofs.Common.{◌≡◌, ℕ, zero, suc, ◌+◌, ◌-◌, ◌<◌, ◌≤◌, Bool, true, false, cond, eqb, List, [], ◌∷◌, ◌++◌, length, take, Some, None, Option, sym, refl, ap, ◌∙◌, ⊎_elim, arith}
+use Rattle.std.proofs.Common.{◌≡◌, ℕ, zero, suc, ◌+◌, ◌<◌, ◌≤◌, Bool, true, false, cond, ◌||◌, eqb, leb, List, [], ◌∷◌, ◌++◌, length, take, Some, None, Option, sym, refl, ap, ◌∙◌, arith}
 use Rattle.std.specs.List.{AllByRecursion}
+use Rattle.std.specs.Option.{option_map}
 use Rattle.std.proofs.ByRecursion.{All-append}
 use Rattle.std.proofs.lemmas.List.{append_assoc, length-append, nil_from_length}
-use Rattle.std.proofs.lemmas.Bool.{cases_lt, le-leb, lt-leb, eq-eqb, ne_eqb, eqb-false, or_parts}
+use Rattle.std.proofs.lemmas.Bool.{le-leb, lt-leb, or_parts, leb-true}
+use Rattle.std.proofs.lemmas.Bool.Decides.{nat_tests}
 use Rattle.text.specs.Arguments.{separator, pieces, arguments, join, Whole}
-use Rattle.text.specs.Cuts.{holds, begins}
+use Rattle.text.specs.Cuts.{holds, begins, first_place}
 use Rattle.text.proofs.Joining.{joins_back, pieces_whole, cuts_back}
-use Rattle.sinks.specs.Sinks.{Bar, uncarried, full, or_else, first_bar}
-use Rattle.joined.specs.Joined.{room, unfinished, rules_at}
-use Rattle.joined.specs.Parts.{byte_bar, bytes_bar}
+use Rattle.sinks.specs.Sinks.{Bar, uncarried, full, refusal, or_else, first_bar}
+use Rattle.joined.specs.Joined.{room, rules_at}
+use Rattle.joined.specs.Parts.{bytes_bar}
 
 pub args_some : (bs : List ℕ) → 0 < length bs → arguments bs ≡ pieces separator bs
 args_some [] h = absurd (omega arith)
@@ -53,7 +55,10 @@ text_room size text h lt = ap (λ b. cond b None (Some full)) (le-leb (length (j
 pub text_no_room : (size : ℕ) (text : List ℕ) → 0 < length text → length text ≡ size → room size (arguments text) [] ≡ Some full
 text_no_room size text h e = ap (λ b. cond b None (Some full)) (lt-leb (length (join (arguments text ++ [] ∷ []))) size (omega (arith, text_room_length text h)))
 
--- what bars the first byte, by the space that is left
+-- `bytes_bar` by the place of the first separator and how many bytes there are
+abbrev bar_by : ℕ → Option ℕ → ℕ → Option Bar
+bar_by left o n = elim o [ Some at ↦ cond (leb at left) (Some uncarried) (Some full) | None ↦ cond (leb n left) None (Some full) ]
+
 module _ (size : ℕ) (list : List (List ℕ)) where
   abbrev long : List ℕ → ℕ
   long a = length (join (list ++ a ∷ []))
@@ -61,42 +66,52 @@ module _ (size : ℕ) (list : List (List ℕ)) where
   grown : (a : List ℕ) (b : ℕ) → long (a ++ b ∷ []) ≡ long a + 1
   grown a b = ap length (join_grown list a (b ∷ [])) ∙ length-append (join (list ++ a ∷ [])) (b ∷ [])
 
-  room_is : (a : List ℕ) (b : ℕ) → long a ≤ size → room size list (a ++ b ∷ []) ≡ cond (eqb (size - long a) 0) (Some full) None
-  room_is a b fit =
-      ⊎_elim
-      (λ (lt : long a < size). ap (λ t. cond t None (Some full)) (le-leb (long (a ++ b ∷ [])) size (omega (arith, grown a b))) ∙ sym (ap (λ t. cond t (Some full) None) (ne_eqb (size - long a) 0 (λ e. omega arith))))
-      (λ (le : size ≤ long a). ap (λ t. cond t None (Some full)) (lt-leb (long (a ++ b ∷ [])) size (omega (arith, grown a b))) ∙ sym (ap (λ t. cond t (Some full) None) (eq-eqb (size - long a) 0 (omega arith))))
-      (cases_lt (long a) size)
+  -- a byte more, with space for it and with none
+  bar_more : (left : ℕ) (o : Option ℕ) (n : ℕ) → bar_by left o n ≡ bar_by (suc left) (option_map suc o) (suc n)
+  bar_more left None n = ap (λ t. cond t None (Some full)) (grind (arith, nat_tests))
+  bar_more left (Some i) n = ap (λ t. cond t (Some uncarried) (Some full)) (grind (arith, nat_tests))
 
-  bar_is : (a : List ℕ) (b : ℕ) → long a ≤ size → (rules_at size).carries list a b ≡ byte_bar (size - long a) b
-  bar_is a b fit = ap (cond (eqb b separator) (Some uncarried)) (room_is a b fit)
+  bar_full : (o : Option ℕ) (n : ℕ) → Some full ≡ bar_by 0 (option_map suc o) (suc n)
+  bar_full None n = sym (ap (λ t. cond t None (Some full)) (lt-leb (suc n) 0 (omega arith)))
+  bar_full (Some i) n = sym (ap (λ t. cond t (Some uncarried) (Some full)) (lt-leb (suc i) 0 (omega arith)))
 
-  -- where the byte goes in there was space
-  on : (o p : Bool) (x y : Option Bar) → (p ≡ false → x ≡ y) → or_else (cond o (Some uncarried) (cond p (Some full) None)) x ≡ or_else (cond o (Some uncarried) (cond p (Some full) None)) y
-  on true p x y h = refl
-  on false true x y h = refl
-  on false false x y h = h refl
+  pub first_bar_is : (left : ℕ) (a bs : List ℕ) → long a + left ≡ size → first_bar (rules_at size) list a bs ≡ bytes_bar left bs
+  first_bar_is left a [] e = sym (ap (λ t. cond t None (Some full)) (le-leb 0 left (omega arith)))
+  first_bar_is left a (b ∷ bs) e = by (eqb b separator) left e (λ less f. first_bar_is less (a ++ b ∷ []) bs f)
+    where
+      by : (t : Bool) (left : ℕ) → long a + left ≡ size → ((less : ℕ) → long (a ++ b ∷ []) + less ≡ size → first_bar (rules_at size) list (a ++ b ∷ []) bs ≡ bytes_bar less bs) → or_else (cond t (Some uncarried) (room size list (a ++ b ∷ []))) (first_bar (rules_at size) list (a ++ b ∷ []) bs) ≡ bar_by left (cond t (Some 0) (option_map suc (first_place separator bs))) (length (b ∷ bs))
+      by true left e rest = sym (ap (λ t. cond t (Some uncarried) (Some full)) (le-leb 0 left (omega arith)))
+      by false zero e rest = ap (λ t. or_else (cond t None (Some full)) (first_bar (rules_at size) list (a ++ b ∷ []) bs)) (lt-leb (long (a ++ b ∷ [])) size (omega (arith, grown a b))) ∙ bar_full (first_place separator bs) (length bs)
+      by false (suc left) e rest = ap (λ t. or_else (cond t None (Some full)) (first_bar (rules_at size) list (a ++ b ∷ []) bs)) (le-leb (long (a ++ b ∷ [])) size (omega (arith, grown a b))) ∙ rest left (omega (arith, grown a b)) ∙ bar_more left (first_place separator bs) (length bs)
 
-  pub bytes_first : (a bs : List ℕ) → long a ≤ size → first_bar (rules_at size) list a bs ≡ bytes_bar (size - long a) bs
-  bytes_first a [] fit = refl
-  bytes_first a (b ∷ bs) fit =
-      ap (λ o. or_else o (first_bar (rules_at size) list (a ++ b ∷ []) bs)) (bar_is a b fit)
-      ∙ on (eqb b separator) (eqb (size - long a) 0) (first_bar (rules_at size) list (a ++ b ∷ []) bs) (bytes_bar (size - long a - 1) bs)
-      (λ ne.
-      let space : long (a ++ b ∷ []) ≤ size = omega (arith, grown a b, eqb-false (size - long a) 0 ne) in
-      let less : size - long (a ++ b ∷ []) ≡ size - long a - 1 = omega (arith, grown a b) in
-      bytes_first (a ++ b ∷ []) bs space ∙ ap (λ n. bytes_bar n bs) less)
+-- what a search for a byte says of all the bytes
+abbrev Found : ℕ → Bool → Option ℕ → Type 0
+Found n h None = h ≡ false
+Found n h (Some i) = i < n
 
--- the end of an argument, by the length of the whole text
-pub end_none : (list : List (List ℕ)) (a : List ℕ) → 0 < length (join (list ++ a ∷ [])) → unfinished list a ≡ None
-end_none [] [] h = absurd (omega arith)
-end_none [] (b ∷ bs) h = refl
-end_none (p ∷ ps) a h = refl
+found : (b : ℕ) (bs : List ℕ) → Found (length bs) (holds b bs) (first_place b bs)
+found b [] = refl
+found b (x ∷ xs) = more (eqb x b) (length xs) (holds b xs) (first_place b xs) (found b xs)
+  where
+    more : (t : Bool) (n : ℕ) (h : Bool) (o : Option ℕ) → Found n h o → Found (suc n) (t || h) (cond t (Some 0) (option_map suc o))
+    more true n h o f = omega arith
+    more false n h None f = f
+    more false n h (Some i) f = omega arith
 
-pub end_some : (text a : List ℕ) → length (join (arguments text ++ a ∷ [])) ≡ 0 → (arguments text ≡ []) × (unfinished (arguments text) a ≡ Some uncarried)
-end_some [] [] h = (refl, refl)
-end_some [] (b ∷ bs) h = absurd (omega arith)
-end_some (x ∷ xs) a h = let long : length (join (arguments (x ∷ xs) ++ a ∷ [])) ≡ length (x ∷ xs) + length (separator ∷ a) = ap length (join_behind (x ∷ xs) a (omega arith)) ∙ length-append (x ∷ xs) (separator ∷ a) in absurd (omega arith)
+pub bytes_fit : (left : ℕ) (bs : List ℕ) → None ≡ option_map refusal (bytes_bar left bs) → (length bs ≤ left) × (holds separator bs ≡ false)
+bytes_fit left bs = by (first_place separator bs) (found separator bs)
+  where
+    by : (o : Option ℕ) → Found (length bs) (holds separator bs) o → None ≡ option_map refusal (bar_by left o (length bs)) → (length bs ≤ left) × (holds separator bs ≡ false)
+    by None f = fits (leb (length bs) left) refl
+      where
+        fits : (t : Bool) → leb (length bs) left ≡ t → None ≡ option_map refusal (cond t None (Some full)) → (length bs ≤ left) × (holds separator bs ≡ false)
+        fits true is e = (leb-true (length bs) left is, f)
+        fits false is e = cc
+    by (Some at) f = never (leb at left)
+      where
+        never : (t : Bool) → None ≡ option_map refusal (cond t (Some uncarried) (Some full)) → (length bs ≤ left) × (holds separator bs ≡ false)
+        never true e = cc
+        never false e = cc
 
 -- the arguments of a text with one more behind it
 pub args_more : (text a : List ℕ) → Whole separator a → 0 < length (join (arguments text ++ a ∷ [])) → arguments (join (arguments text ++ a ∷ [])) ≡ arguments text ++ a ∷ []
@@ -111,9 +126,9 @@ begins_take b (suc m) zero xs h le = absurd (omega arith)
 begins_take b (suc m) (suc n) [] h le = refl
 begins_take b (suc m) (suc n) (x ∷ xs) h le = refl
 
-pub begins_front : (b m n : ℕ) (xs : List ℕ) → m ≤ n → begins b (take n xs) ≡ false → begins b (take m xs) ≡ false
-begins_front b zero n xs le e = refl
-begins_front b (suc m) n xs le e = sym (begins_take b (suc m) n xs (omega arith) le) ∙ e
+pub holds-append : (b : ℕ) (xs ys : List ℕ) → holds b xs ≡ false → holds b ys ≡ false → holds b (xs ++ ys) ≡ false
+holds-append b [] ys p q = q
+holds-append b (x ∷ xs) ys p q = let parts = or_parts (eqb x b) (holds b xs) p in rw parts.0 (holds-append b xs ys parts.1 q)
 
 pub begins_whole : (b : ℕ) (xs : List ℕ) → holds b xs ≡ false → begins b xs ≡ false
 begins_whole b [] h = refl

@@ -1,9 +1,10 @@
 -- What a joined sink means. Assumes nothing.
-use Rattle.std.specs.Prelude.{◌≡◌, ℕ, cond, length, take, drop, Some, None}
+use Rattle.std.specs.Prelude.{◌≡◌, ℕ, ◌+◌, ◌<◌, ◌≤◌, false, List, ◌++◌, length, take, drop, None, IsSome}
 use Rattle.std.specs.Borrow.{GName}
-use Rattle.text.specs.Arguments.{arguments}
-use Rattle.sinks.specs.Sinks.{Held, finish_told, finished}
-use Rattle.joined.specs.Joined.{rules_at}
+use Rattle.std.specs.Option.{option_map, option_to_list}
+use Rattle.text.specs.Arguments.{separator, arguments}
+use Rattle.text.specs.Cuts.{holds}
+use Rattle.sinks.specs.Sinks.{Held}
 use Rattle.joined.specs.Parts.{Text}
 use Rattle.joined.specs.declared.state.Joined.{Joined}
 
@@ -11,7 +12,7 @@ use Rattle.joined.specs.declared.state.Joined.{Joined}
 abbrev pub held : Joined → Held
 held s = record {
   list = arguments (take s.finished s.buffer.now);
-  pending = cond s.begun (Some (drop s.start (take s.used s.buffer.now))) None;
+  pending = option_map (λ at. drop at (take s.used s.buffer.now)) s.start;
 }
 
 -- the size of the buffer
@@ -22,7 +23,17 @@ size s = length s.buffer.now
 abbrev pub lasting : Joined → ℕ × GName
 lasting s = (size s, s.buffer.ghost_name)
 
--- What the parts of the sink tell it of its open argument, where it ends: it adds no meaning.
-pub record Sealed (s : Joined) (count : ℕ) : Type 0 where
-  pub text : Text s.buffer.now s.used count
-  pub holds : finished (finish_told (rules_at (size s)) (held s)) (held s) ≡ record { list = arguments (take s.used s.buffer.now); pending = None }
+-- What the check of each call tells the step behind it: these add no meaning.
+pub record CanBegin (s : Joined) : Type 0 where
+  pub shut : s.start ≡ None
+  pub room : 0 < s.finished → s.finished < size s
+
+pub record CanWrite (s : Joined) (bytes : List ℕ) : Type 0 where
+  pub begun : IsSome s.start
+  pub room : s.used + length bytes ≤ size s
+  pub whole : holds separator bytes ≡ false
+
+pub record CanFinish (s : Joined) : Type 0 where
+  pub fits : s.count + 1 ≤ s.used
+  pub text : Text s.buffer.now s.used (s.count + 1)
+  pub list : (held s).list ++ option_to_list (held s).pending ≡ arguments (take s.used s.buffer.now)

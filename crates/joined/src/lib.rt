@@ -1,7 +1,6 @@
 // A sink that writes its arguments into a buffer, with 0x1f between them.
 #![tactic(auto)]
 
-mod bytes;
 mod sink;
 mod state;
 mod steps;

@@ -3,7 +3,7 @@ ghost use Rattle.std.specs.Prelude.{◌≡◌, ℕ, length, None};
 ghost use Rattle.std.specs.Borrow.{GName};
 ghost use Rattle.text.specs.Arguments.{arguments};
 ghost use Rattle.sinks.specs.Sinks.{nothing};
-ghost use Rattle.joined.specs.Joined.{rules_at, content as contentOf, filled};
+ghost use Rattle.joined.specs.Joined.{rules_at, content, filled};
 ghost use Rattle.joined.specs.State.{held, size, lasting};
 
 use super::state::Joined;
@@ -21,26 +21,27 @@ impl<'a> Joined<'a> {
             buffer,
             count: 0,
             finished: 0,
-            begun: false,
-            start: 0,
+            start: None,
             used: 0,
         }
     }
 
     // The text so far. Where no argument is open, its arguments are those that the sink holds.
+    #[tactic(auto, using(crate::proofs::States::content_is))]
     pub fn content(&self) -> &[u8]
-        ensures answer { result.now ≡ contentOf (held self.now) }
+        ensures answer { result.now ≡ content (held self.now) }
         ensures reads_back { (held self.now).pending ≡ None → arguments result.now ≡ (held self.now).list }
     {
-        self.text()
+        &self.buffer[..self.used]
     }
 
     // All of the buffer: the text, and zeros behind it.
+    #[tactic(auto, using(crate::proofs::States::every_byte))]
     pub fn buffer(&self) -> &[u8]
         ensures lends { result.now ≡ self.now.buffer.now }
-        ensures every_byte { self.now.buffer.now ≡ filled (size self.now) (contentOf (held self.now)) }
+        ensures every_byte { self.now.buffer.now ≡ filled (size self.now) (content (held self.now)) }
     {
-        self.whole()
+        &self.buffer[..]
     }
 }
 
@@ -54,18 +55,12 @@ impl<'a> Sink for Joined<'a> {
     ghost means = { held };
 
     fn begin(&mut self) -> Result<Token, Refusal> {
-        self.check_shut()?;
-        self.check_room()?;
-        if self.finished == 0 {
-            self.start_first();
-        } else {
-            self.start_next();
-        }
+        self.check_begin()?;
+        self.open_argument();
         Ok(Token::issue())
     }
 
     fn write(&mut self, bytes: &[u8]) -> Result<(), Refusal> {
-        self.check_begun()?;
         self.check_write(bytes)?;
         self.append(bytes);
         Ok(())
@@ -74,25 +69,25 @@ impl<'a> Sink for Joined<'a> {
     fn finish(&mut self, token: Token) -> Result<(), Refusal> {
         token.spend();
         let told = self.check_finish();
-        if self.begun {
-            self.seal();
+        match told {
+            Ok(()) => self.keep(self.used, self.count + 1),
+            Err(_) => self.keep(self.finished, self.count),
         }
         told
     }
 
     fn withdraw(&mut self, token: Token) -> Result<(), Refusal> {
         token.spend();
-        self.check_begun()?;
-        let to = self.finished;
-        self.seal();
-        self.shorten_to(to);
+        self.check_open()?;
+        self.keep(self.finished, self.count);
         Ok(())
     }
 
     fn cut(&mut self, n: usize) -> Result<(), Refusal> {
         self.check_shut()?;
-        let to = self.front(n);
-        self.shorten_to(to);
+        if n < self.count {
+            self.keep(self.front(n), n);
+        }
         Ok(())
     }
 
@@ -101,9 +96,6 @@ impl<'a> Sink for Joined<'a> {
     }
 
     fn empty(&mut self) {
-        if self.begun {
-            self.seal();
-        }
-        self.shorten_to(0);
+        self.keep(0, 0);
     }
 }

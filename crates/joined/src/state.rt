@@ -1,8 +1,8 @@
 // What a joined sink keeps.
-ghost use Rattle.std.specs.Prelude.{◌≡◌, ◌≤◌, true, false, [], ◌∷◌, ◌++◌, length, take, drop};
+ghost use Rattle.std.specs.Prelude.{◌≡◌, ℕ, ◌≤◌, false, [], ◌∷◌, ◌++◌, length, take, drop, Some, None};
 ghost use Rattle.text.specs.Arguments.{separator, arguments, join};
-ghost use Rattle.text.specs.Cuts.{holds, begins};
-ghost use Rattle.joined.specs.Parts.{ClearFrom};
+ghost use Rattle.text.specs.Cuts.{holds};
+ghost use Rattle.joined.specs.Parts.{ClearFrom, Text};
 
 #[derive(Drop)]
 pub struct Joined<'a> {
@@ -10,18 +10,16 @@ pub struct Joined<'a> {
     // how many arguments are finished, and where their text ends
     pub(crate) count: usize,
     pub(crate) finished: usize,
-    // whether an argument is open, and where it starts
-    pub(crate) begun: bool,
-    pub(crate) start: usize,
+    // where the open argument starts, if one is open
+    pub(crate) start: Option<usize>,
     // where the content ends
     pub(crate) used: usize,
     ghost within: { used ≤ length buffer.now },
     ghost order: { finished ≤ used },
-    ghost behind: { start ≤ used },
     ghost zeros: { ClearFrom used buffer.now },
-    ghost counted: { count ≡ length (arguments (take finished buffer.now)) },
-    ghost first: { begins separator (take finished buffer.now) ≡ false },
-    ghost shut: { begun ≡ false → used ≡ finished },
-    ghost whole: { begun ≡ true → holds separator (drop start (take used buffer.now)) ≡ false },
-    ghost content: { begun ≡ true → take used buffer.now ≡ join (arguments (take finished buffer.now) ++ drop start (take used buffer.now) ∷ []) },
+    ghost text: { Text buffer.now finished count },
+    ghost shut: { start ≡ None → used ≡ finished },
+    ghost behind: { (at : ℕ) → start ≡ Some at → at ≤ used },
+    ghost whole: { (at : ℕ) → start ≡ Some at → holds separator (drop at (take used buffer.now)) ≡ false },
+    ghost content: { (at : ℕ) → start ≡ Some at → take used buffer.now ≡ join (arguments (take finished buffer.now) ++ drop at (take used buffer.now) ∷ []) },
 }

@@ -1,199 +1,143 @@
-// The steps of a joined sink, each from one good state to another.
-ghost use Rattle.std.specs.Prelude.{◌≡◌, ℕ, ◌+◌, ◌-◌, ◌<◌, ◌≤◌, true, false, [], ◌∷◌, length, take, drop, Some, None, ◌≢◌};
+// The steps of a joined sink, each from one good state to another, and what has to be checked before each.
+ghost use Rattle.std.specs.Prelude.{◌≡◌, ◌+◌, ◌<◌, ◌≤◌, cond, length, take, Some, None, ◌==◌, slice_set, IfOk, OnOk};
+ghost use Rattle.text.specs.Arguments.{separator, arguments};
 ghost use Rattle.std.specs.Option.{option_map};
-ghost use Rattle.text.specs.Arguments.{arguments};
-ghost use Rattle.sinks.specs.Sinks.{verdict, refusal, first_bar, finish_told, withdraw_told, cut_told, begun as begunSo, written, finished as finishedSo};
-ghost use Rattle.joined.specs.Joined.{rules_at, room as room_for, content as contentOf, filled};
-ghost use Rattle.joined.specs.Parts.{Taken, Text, Front, Shorter};
-ghost use Rattle.joined.specs.State.{held, size, lasting, Sealed};
+ghost use Rattle.sinks.specs.Sinks.{verdict, refusal, begin_told, write_told, finish_told, withdraw_told, cut_told, begun, written};
+ghost use Rattle.joined.specs.Joined.{rules_at};
+ghost use Rattle.joined.specs.Parts.{bytes_bar, Text, Front};
+ghost use Rattle.joined.specs.State.{held, size, lasting, CanBegin, CanWrite, CanFinish};
 
-use super::bytes::{check_bytes, check_room, fewer, front};
 use super::state::Joined;
-use text::{Refusal, SEPARATOR};
+use text::{Refusal, SEPARATOR, find};
 
-impl<'a> Joined<'a> {
-    // The text so far.
-    pub(crate) fn text(&self) -> &[u8]
-        ensures answer { result.now ≡ contentOf (held self.now) }
-        ensures reads_back { (held self.now).pending ≡ None → arguments result.now ≡ (held self.now).list }
-    {
-        &self.buffer[0..self.used]
+// Writes a separator behind a text, unless that is empty. Answers where the next argument starts.
+fn separate(bytes: &mut [u8], end: usize) -> usize
+    requires { 0 < end → end < length bytes.old }
+    ensures text { bytes.new ≡ cond (end == 0) bytes.old (slice_set bytes.old end separator) }
+    ensures place { result ≡ cond (end == 0) 0 (end + 1) }
+{
+    if end == 0 {
+        return 0;
     }
+    bytes[end] = SEPARATOR;
+    end + 1
+}
 
-    // All of the buffer.
-    pub(crate) fn whole(&self) -> &[u8]
-        ensures lends { result.now ≡ self.now.buffer.now }
-        ensures every_byte { self.now.buffer.now ≡ filled (size self.now) (contentOf (held self.now)) }
+// Declines bytes of which one does not go in, with space for so many. A separator right behind the space is told as one.
+fn check_bytes(bytes: &[u8], left: usize) -> Result<(), Refusal>
+    ensures { verdict result ≡ option_map refusal (bytes_bar left bytes.now) }
+{
+    match find(bytes, SEPARATOR) {
+        Some(at) if at <= left => Err(Refusal::CannotCarry),
+        None if bytes.len() <= left => Ok(()),
+        _ => Err(Refusal::NoSpace),
+    }
+}
+
+// The clause `stays` compares a sink before and after a call, so no type can carry it.
+impl<'a> Joined<'a> {
+    // Where the open argument starts. Declines a call that asks for one where none is open.
+    pub(crate) fn check_open(&self) -> Result<usize, Refusal>
+        ensures answer { verdict result ≡ withdraw_told (held self.now) }
+        ensures place { IfOk result (λ at. self.now.start ≡ Some at) }
     {
-        &*self.buffer
+        self.start.ok_or(Refusal::OutOfTurn)
     }
 
     // Declines a call that no open argument allows.
     pub(crate) fn check_shut(&self) -> Result<(), Refusal>
         ensures answer { verdict result ≡ cut_told (held self.now) }
-        ensures shut { verdict result ≡ None → self.now.begun ≡ false }
+        ensures shut { OnOk result (self.now.start ≡ None) }
     {
-        if self.begun {
+        if self.start.is_some() {
             return Err(Refusal::OutOfTurn);
         }
         Ok(())
     }
 
-    // Declines a call that asks for an open argument.
-    pub(crate) fn check_begun(&self) -> Result<(), Refusal>
-        ensures answer { verdict result ≡ withdraw_told (held self.now) }
-        ensures begun { verdict result ≡ None → self.now.begun ≡ true }
+    // Declines one more argument where one is open, or where no space is left for its separator.
+    #[tactic(auto, using(crate::proofs::States::room_told))]
+    pub(crate) fn check_begin(&self) -> Result<(), Refusal>
+        ensures answer { verdict result ≡ begin_told (rules_at (size self.now)) (held self.now) }
+        ensures can { OnOk result (CanBegin self.now) }
     {
-        if !self.begun {
-            return Err(Refusal::OutOfTurn);
+        self.check_shut()?;
+        if self.finished > 0 && self.finished == self.buffer.len() {
+            return Err(Refusal::NoSpace);
         }
         Ok(())
     }
 
-    // Declines one more argument where no space is left for its separator.
-    pub(crate) fn check_room(&self) -> Result<(), Refusal>
-        ensures answer { verdict result ≡ option_map refusal (room_for (size self.now) (held self.now).list []) }
-        ensures room { verdict result ≡ None → 0 < self.now.finished → self.now.finished < size self.now }
-    {
-        check_room(self.buffer, self.finished)
-    }
-
-    // Where the text of the first n arguments ends, or of all.
-    pub(crate) fn front(&self, n: usize) -> usize
-        ensures { Front self.now.buffer.now self.now.finished n result }
-    {
-        if n >= self.count {
-            return self.finished;
-        }
-        front(self.buffer, self.finished, self.count, n)
-    }
-
-    // Opens the first argument.
-    pub(crate) fn start_first(&mut self)
-        requires { (self.old.begun ≡ false) × (self.old.finished ≡ 0) }
-        ensures holds { held self.new ≡ begunSo None (held self.old) }
+    // Opens an argument: the first, or one behind others and a separator.
+    pub(crate) fn open_argument(&mut self)
+        requires { CanBegin self.old }
+        ensures holds { held self.new ≡ begun None (held self.old) }
         ensures stays { lasting self.new ≡ lasting self.old }
     {
-        self.start = 0;
-        self.begun = true;
-    }
-
-    // Opens an argument behind others.
-    pub(crate) fn start_next(&mut self)
-        requires { (self.old.begun ≡ false) × ((0 < self.old.finished) × (self.old.finished < size self.old)) }
-        ensures holds { held self.new ≡ begunSo None (held self.old) }
-        ensures stays { lasting self.new ≡ lasting self.old }
-    {
-        let at = self.finished;
-        self.buffer[at] = SEPARATOR;
-        self.used = at + 1;
-        self.start = at + 1;
-        self.begun = true;
+        let at = separate(self.buffer, self.finished);
+        self.start = Some(at);
+        self.used = at;
     }
 
     // Declines bytes of which one does not go into the open argument.
     pub(crate) fn check_write(&self, bytes: &[u8]) -> Result<(), Refusal>
-        requires { self.now.begun ≡ true }
-        ensures answer { verdict result ≡ option_map refusal (first_bar (rules_at (size self.now)) (held self.now).list (drop self.now.start (take self.now.used self.now.buffer.now)) bytes.now) }
-        ensures taken { verdict result ≡ None → Taken (size self.now - self.now.used) bytes.now }
+        ensures answer { verdict result ≡ write_told (rules_at (size self.now)) (held self.now) bytes.now }
+        ensures can { OnOk result (CanWrite self.now bytes.now) }
     {
+        self.check_open()?;
         check_bytes(bytes, self.buffer.len() - self.used)
-    }
-
-    // Adds a byte to the open argument.
-    fn push(&mut self, byte: u8)
-        requires { (self.old.begun ≡ true) × ((self.old.used < size self.old) × ((byte ≢ 31))) }
-        ensures holds { held self.new ≡ written None (byte ∷ []) (held self.old) }
-        ensures stays { lasting self.new ≡ lasting self.old }
-        ensures begun { self.new.begun ≡ true }
-        ensures used { self.new.used ≡ self.old.used + 1 }
-    {
-        let at = self.used;
-        self.buffer[at] = byte;
-        self.used = at + 1;
     }
 
     // Adds bytes to the open argument.
     pub(crate) fn append(&mut self, bytes: &[u8])
-        requires { (self.old.begun ≡ true) × (Taken (size self.old - self.old.used) bytes.now) }
+        requires { CanWrite self.old bytes.now }
         ensures holds { held self.new ≡ written None bytes.now (held self.old) }
         ensures stays { lasting self.new ≡ lasting self.old }
     {
-        for b in bytes {
-            self.push(*b);
-        }
+        let end = self.used + bytes.len();
+        self.buffer[self.used..end].copy_from_slice(bytes);
+        self.used = end;
     }
 
-    // Declines the end of an empty first argument.
+    // Declines the end of an argument where none is open, or where it is an empty first one.
     pub(crate) fn check_finish(&self) -> Result<(), Refusal>
-        ensures { verdict result ≡ finish_told (rules_at (size self.now)) (held self.now) }
+        ensures answer { verdict result ≡ finish_told (rules_at (size self.now)) (held self.now) }
+        ensures can { OnOk result (CanFinish self.now) }
     {
-        self.check_begun()?;
+        self.check_open()?;
         if self.used == 0 {
             return Err(Refusal::CannotCarry);
         }
         Ok(())
     }
 
-    // How many arguments there are with the open one, unless that is an empty first one.
-    fn total(&self) -> usize
-        requires { self.now.begun ≡ true }
-        ensures { Sealed self.now result }
+    // Where the text of the first n arguments ends: at the nth separator.
+    pub(crate) fn front(&self, n: usize) -> usize
+        requires { n < self.now.count }
+        ensures { Front self.now.buffer.now self.now.finished n result }
     {
-        if self.used == 0 {
+        let Some(before) = n.checked_sub(1) else {
             return 0;
-        }
-        self.count + 1
+        };
+        self.buffer[..self.finished]
+            .iter()
+            .enumerate()
+            .filter(|(_, b)| **b == SEPARATOR)
+            .nth(before)
+            .map_or(self.finished, |(at, _)| at)
     }
 
-    // Puts the open argument last in the list, or drops an empty first one.
-    pub(crate) fn seal(&mut self)
-        requires { self.old.begun ≡ true }
-        ensures holds { held self.new ≡ finishedSo (finish_told (rules_at (size self.old)) (held self.old)) (held self.old) }
+    // Keeps so many arguments, whose text ends at a place, and drops what is behind it.
+    #[tactic(auto, using(crate::proofs::States::kept))]
+    pub(crate) fn keep(&mut self, end: usize, count: usize)
+        requires { (end ≤ self.old.used) × Text self.old.buffer.now end count }
+        ensures holds { held self.new ≡ record { list = arguments (take end self.old.buffer.now); pending = None } }
         ensures stays { lasting self.new ≡ lasting self.old }
-        ensures bytes { self.new.buffer.now ≡ self.old.buffer.now }
-        ensures used { self.new.used ≡ self.old.used }
-        ensures shut { self.new.begun ≡ false }
     {
-        self.count = self.total();
-        self.finished = self.used;
-        self.start = self.used;
-        self.begun = false;
-    }
-
-    // How many arguments are left without the last byte of the text.
-    fn fewer(&self) -> usize
-        requires { (self.now.begun ≡ false) × (0 < self.now.used) }
-        ensures { Shorter self.now.buffer.now (self.now.used - 1) result }
-    {
-        fewer(self.buffer, self.used - 1, self.count)
-    }
-
-    // Drops the last byte of the text.
-    fn shorten(&mut self)
-        requires { (self.old.begun ≡ false) × (0 < self.old.used) }
-        ensures stays { lasting self.new ≡ lasting self.old }
-        ensures shut { self.new.begun ≡ false }
-        ensures used { self.new.used + 1 ≡ self.old.used }
-        ensures front { (n : ℕ) → n ≤ self.new.used → take n self.new.buffer.now ≡ take n self.old.buffer.now }
-    {
-        let count = self.fewer();
-        let at = self.used - 1;
-        self.buffer[at] = 0;
+        self.buffer[end..self.used].fill(0);
         self.count = count;
-        self.finished = at;
-        self.start = at;
-        self.used = at;
-    }
-
-    // Drops the end of the text from a place on.
-    pub(crate) fn shorten_to(&mut self, to: usize)
-        requires { (self.old.begun ≡ false) × (to ≤ self.old.used) }
-        ensures holds { held self.new ≡ record { list = arguments (take to self.old.buffer.now); pending = None } }
-        ensures stays { lasting self.new ≡ lasting self.old }
-    {
-        while self.used > to {
-            self.shorten();
-        }
+        self.finished = end;
+        self.start = None;
+        self.used = end;
     }
 }

@@ -1,7 +1,7 @@
--- Bytes in several parts, and lists in several parts: the first bar of the parts is that of the whole. Assumes nothing.
-use Rattle.std.proofs.Common.{◌≡◌, ℕ, ◌+◌, ◌<◌, ◌≤◌, List, [], ◌∷◌, ◌++◌, length, get_or, take, Some, None, Option, sym, refl, ap, ◌∙◌}
+-- Bytes in several parts, and lists in several parts: the first bar of the parts is that of the whole, and so is what is written. Assumes nothing.
+use Rattle.std.proofs.Common.{◌≡◌, ℕ, List, [], ◌∷◌, ◌++◌, Some, None, Option, sym, refl, ap, ◌∙◌}
 use Rattle.std.specs.Option.{option_map}
-use Rattle.std.proofs.lemmas.List.{append_assoc, append-nil, take_more, take_all}
+use Rattle.std.proofs.lemmas.List.{append_assoc, append-nil}
 use Rattle.sinks.specs.Putting.{argument_bar, arguments_bar}
 use Rattle.sinks.specs.Sinks.{Held, Bar, Rules, or_else, first_bar, written}
 
@@ -22,23 +22,10 @@ module _ (r : Rules) where
       ap (or_else (argument_bar r list x)) (arguments_bar-append (list ++ x ∷ []) xs ys ∙ ap (λ l. or_else (arguments_bar r (list ++ x ∷ []) xs) (arguments_bar r l ys)) (append_assoc list (x ∷ []) xs))
       ∙ sym (or_else_assoc (argument_bar r list x) (arguments_bar r (list ++ x ∷ []) xs) (arguments_bar r (list ++ x ∷ xs) ys))
 
--- bytes one behind the other in the open argument
-written_more : (h : Held) (xs ys : List ℕ) → written None ys (written None xs h) ≡ written None (xs ++ ys) h
+-- bytes written one part behind the other in the open argument
+pub written_more : (h : Held) (xs ys : List ℕ) → written None ys (written None xs h) ≡ written None (xs ++ ys) h
 written_more h xs ys = ap (λ o. record { list = h.list; pending = o }) (more h.pending)
   where
     more : (o : Option (List ℕ)) → option_map (λ a. a ++ ys) (option_map (λ a. a ++ xs) o) ≡ option_map (λ a. a ++ (xs ++ ys)) o
     more None = refl
     more (Some a) = ap Some (append_assoc a xs ys)
-
-pub written_none : (h : Held) → h ≡ written None [] h
-written_none h = ap (λ o. record { list = h.list; pending = o }) (none h.pending)
-  where
-    none : (o : Option (List ℕ)) → o ≡ option_map (λ a. a ++ []) o
-    none None = refl
-    none (Some a) = ap Some (sym (append-nil a))
-
-pub written_byte : (h h' h'' : Held) (bs : List ℕ) (i : ℕ) → i < length bs → h' ≡ written None (take i bs) h → h'' ≡ written None (get_or bs i 0 ∷ []) h' → h'' ≡ written None (take (i + 1) bs) h
-written_byte h h' h'' bs i in' p q = q ∙ ap (written None (get_or bs i 0 ∷ [])) p ∙ written_more h (take i bs) (get_or bs i 0 ∷ []) ∙ ap (λ l. written None l h) (sym (take_more bs i 0 in'))
-
-pub written_all : (h h' : Held) (bs : List ℕ) (i : ℕ) → length bs ≤ i → h' ≡ written None (take i bs) h → h' ≡ written None bs h
-written_all h h' bs i past p = p ∙ ap (λ l. written None l h) (take_all i bs past)

@@ -80,3 +80,6 @@ nothing_cut n h h' p q e =
     let shut = none_open h.list h.pending q in
     let all : length h.list ≤ n = omega arith in
     (shut, e ∙ (λ i. record { list = take_all n h.list all i; pending = sym shut i }))
+
+-- the start and the end of the list
+pub ruleset both_ends = (none_yet, none_barred, all_in)

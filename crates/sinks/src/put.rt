@@ -1,6 +1,6 @@
-// Whole arguments and lists of them, put into any sink.
-ghost use Rattle.std.specs.Prelude.{◌≡◌, [], ◌∷◌, map, length, None, Ok, Err};
-ghost use Rattle.sinks.specs.Sinks.{verdict, finished, cut_told};
+// Whole arguments and lists of them, put into any sink. The clause `stays` of each is the one of `Sink`.
+ghost use Rattle.std.specs.Prelude.{◌≡◌, [], ◌∷◌, map, None};
+ghost use Rattle.sinks.specs.Sinks.{verdict, finished};
 ghost use Rattle.sinks.specs.Putting.{put_told, put as put_in, end_told, kept_or_cut};
 ghost use Rattle.sinks.specs.Steps.{PutUntil};
 
@@ -55,6 +55,7 @@ pub fn keep_or_cut<S: Sink>(
 }
 
 // Puts a list of arguments as far as they go.
+#[tactic(auto, using(crate::proofs::Stepping::both_ends))]
 fn put_until<S: Sink>(sink: &mut S, list: &[&[u8]]) -> Result<(), Refusal>
     requires { (S.means sink.old).pending ≡ None }
     ensures until { PutUntil (S.rules (S.fixed sink.old)) (map (λ x. x.now) list.now) (verdict result) (S.means sink.old) (S.means sink.new) }
@@ -66,25 +67,16 @@ fn put_until<S: Sink>(sink: &mut S, list: &[&[u8]]) -> Result<(), Refusal>
     Ok(())
 }
 
-// How many arguments are finished, where none is open.
-fn closed_count<S: Sink>(sink: &mut S) -> Result<usize, Refusal>
-    ensures answer { verdict result ≡ cut_told (S.means sink.old) }
-    ensures count { elim result [ Ok n ↦ (n ≡ length (S.means sink.old).list) × ((S.means sink.old).pending ≡ None) | Err e ↦ Unit {0} ] }
-    ensures holds { S.means sink.new ≡ S.means sink.old }
-    ensures stays { S.fixed sink.new ≡ S.fixed sink.old }
-{
-    let n = S::count(sink);
-    sink.cut(n)?;
-    Ok(n)
-}
-
 // Puts a list of arguments: all of them go in, or the sink holds what it held.
+#[tactic(auto, using(crate::proofs::Stepping::nothing_cut))]
 pub fn put_arguments<S: Sink>(sink: &mut S, list: &[&[u8]]) -> Result<(), Refusal>
     ensures answer { verdict result ≡ put_told (S.rules (S.fixed sink.old)) (S.means sink.old) (map (λ x. x.now) list.now) }
     ensures holds { S.means sink.new ≡ put_in (verdict result) (map (λ x. x.now) list.now) (S.means sink.old) }
     ensures stays { S.fixed sink.new ≡ S.fixed sink.old }
 {
-    let n = closed_count(sink)?;
+    // cutting to all that is there is declined where an argument is open, and else changes nothing
+    let n = S::count(sink);
+    sink.cut(n)?;
     let outcome = put_until(sink, list);
     keep_or_cut(sink, n, outcome)
 }

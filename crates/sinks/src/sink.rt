@@ -6,6 +6,7 @@ ghost use Rattle.sinks.specs.Sinks.{Held, Rules, verdict, begin_told, write_told
 use super::token::Token;
 use text::Refusal;
 
+// The clause `stays` compares a sink before and after a call, so no type can carry it.
 pub trait Sink {
     // what never changes, its size above all; each sink has a type of its own for it
     ghost Fixed: { Type 0 };

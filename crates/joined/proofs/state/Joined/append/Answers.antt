@@ -1,21 +1,24 @@
-use Rattle.std.proofs.Common.{refl, ap, ◌∙◌, arith}
-use Rattle.sinks.proofs.Laws.{written_none, written_byte, written_all}
-use Rattle.joined.proofs.States.{carried}
+use Rattle.std.proofs.Common.{arith}
+use Rattle.joined.proofs.States as states
 use Rattle.joined.proofs.state.Joined.append.Goals as goal
 
-pub loop-b-init : goal.loop-b-init
-loop-b-init c = (c.requires.0, (omega arith), refl, written_none _)
+pub invariant_of-self : goal.invariant_of-self
+invariant_of-self c =
+    let s = c.args.self.now in
+    let bs = c.args.bytes.now in
+    let w = states.written_by_copy s.buffer.now _ bs s.used _ c.copy_from_slice.ensures.after (omega arith) c.requires.room in
+    record {
+      within = states.write_within s bs c.requires _ w;
+      order = omega arith;
+      zeros = w.clear s.zeros;
+      text = states.write_text s bs c.requires _ w;
+      shut = states.write_shut s bs c.requires _ w;
+      behind = states.write_behind s bs c.requires _ w;
+      whole = states.write_whole s bs c.requires _ w;
+      content = states.write_content s bs c.requires _ w;
+    }
 
-pub push-requires : goal.push-requires
-push-requires c =
-    let inv = c.loop-b.invariant in
-    (inv.0, (omega (arith, ap (λ f. f.0) inv.2, inv.1, c.requires.1.fits), carried _ _ c.loop-b-test.true c.requires.1.whole))
-
-pub loop-b-preserved : goal.loop-b-preserved
-loop-b-preserved c =
-    let inv = c.loop-b.invariant in
-    let told = c.push.ensures in
-    (told.begun, omega (arith, told.used, inv.1), told.stays ∙ inv.2, written_byte _ _ _ _ _ c.loop-b-test.true inv.3 told.holds)
-
-pub returns : goal.returns
-returns c = let inv = c.loop-b.invariant in record { holds = written_all _ _ _ _ c.loop-b-test.false inv.3; stays = inv.2 }
+pub returns-clause-holds : goal.returns-clause-holds
+returns-clause-holds c =
+    let s = c.args.self.now in
+    states.write_holds s _ c.requires _ (states.written_by_copy s.buffer.now _ _ s.used _ c.copy_from_slice.ensures.after (omega arith) c.requires.room)
