@@ -1,1 +1,2 @@
 mod Known
+mod Searched

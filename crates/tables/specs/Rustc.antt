@@ -1,12 +1,11 @@
 -- The options of rustc, from the list of its command-line arguments in the rustc book. Assumes nothing.
 use Rattle.std.specs.Prelude.{ℕ, List, [], ◌∷◌, codes, Option}
+use Rattle.std.specs.List.{find}
 use Rattle.std.specs.Option.{option_map}
+use Rattle.std.specs.Str.{bytes_eq}
 use Rattle.flags.specs.declared.kinds.Code.{Code}
 use Rattle.flags.specs.declared.kinds.Code.TheVariants.{Of, Debuginfo, Optimize}
 use Rattle.flags.specs.declared.kinds.Kind.TheVariants as kind
-use Rattle.words.specs.Reading.{read}
-use Rattle.tables.specs.declared.long.LongOption.{LongOption}
-use Rattle.tables.specs.declared.long.LongOption.TheVariants as option
 use Rattle.tables.specs.Tables.{Options}
 
 pub record Spelling : Type 0 where
@@ -34,72 +33,40 @@ letters =
     ∷ row (codes "Z") (Of kind.Z)
     ∷ []
 
-abbrev pub spelling : LongOption → Spelling
-spelling option.Help = row (codes "help") (Of kind.Help)
-spelling option.Cfg = row (codes "cfg") (Of kind.Cfg)
-spelling option.CrateType = row (codes "crate-type") (Of kind.CrateType)
-spelling option.CrateName = row (codes "crate-name") (Of kind.CrateName)
-spelling option.Edition = row (codes "edition") (Of kind.Edition)
-spelling option.Emit = row (codes "emit") (Of kind.Emit)
-spelling option.Print = row (codes "print") (Of kind.Print)
-spelling option.OutDir = row (codes "out-dir") (Of kind.OutDir)
-spelling option.Explain = row (codes "explain") (Of kind.Explain)
-spelling option.Test = row (codes "test") (Of kind.Test)
-spelling option.Target = row (codes "target") (Of kind.Target)
-spelling option.Allow = row (codes "allow") (Of kind.Allow)
-spelling option.Warn = row (codes "warn") (Of kind.Warn)
-spelling option.ForceWarn = row (codes "force-warn") (Of kind.ForceWarn)
-spelling option.Deny = row (codes "deny") (Of kind.Deny)
-spelling option.Forbid = row (codes "forbid") (Of kind.Forbid)
-spelling option.CapLints = row (codes "cap-lints") (Of kind.CapLints)
-spelling option.Codegen = row (codes "codegen") (Of kind.Codegen)
-spelling option.Version = row (codes "version") (Of kind.Version)
-spelling option.Verbose = row (codes "verbose") (Of kind.Verbose)
-spelling option.Extern = row (codes "extern") (Of kind.Extern)
-spelling option.ExternLocation = row (codes "extern-location") (Of kind.ExternLocation)
-spelling option.Sysroot = row (codes "sysroot") (Of kind.Sysroot)
-spelling option.ErrorFormat = row (codes "error-format") (Of kind.ErrorFormat)
-spelling option.Json = row (codes "json") (Of kind.Json)
-spelling option.Color = row (codes "color") (Of kind.Color)
-spelling option.RemapPathPrefix = row (codes "remap-path-prefix") (Of kind.RemapPathPrefix)
-
-abbrev pub long_options : List LongOption
+abbrev pub long_options : List Spelling
 long_options =
-    option.Help
-    ∷ option.Cfg
-    ∷ option.CrateType
-    ∷ option.CrateName
-    ∷ option.Edition
-    ∷ option.Emit
-    ∷ option.Print
-    ∷ option.OutDir
-    ∷ option.Explain
-    ∷ option.Test
-    ∷ option.Target
-    ∷ option.Allow
-    ∷ option.Warn
-    ∷ option.ForceWarn
-    ∷ option.Deny
-    ∷ option.Forbid
-    ∷ option.CapLints
-    ∷ option.Codegen
-    ∷ option.Version
-    ∷ option.Verbose
-    ∷ option.Extern
-    ∷ option.ExternLocation
-    ∷ option.Sysroot
-    ∷ option.ErrorFormat
-    ∷ option.Json
-    ∷ option.Color
-    ∷ option.RemapPathPrefix
+    row (codes "help") (Of kind.Help)
+    ∷ row (codes "cfg") (Of kind.Cfg)
+    ∷ row (codes "crate-type") (Of kind.CrateType)
+    ∷ row (codes "crate-name") (Of kind.CrateName)
+    ∷ row (codes "edition") (Of kind.Edition)
+    ∷ row (codes "emit") (Of kind.Emit)
+    ∷ row (codes "print") (Of kind.Print)
+    ∷ row (codes "out-dir") (Of kind.OutDir)
+    ∷ row (codes "explain") (Of kind.Explain)
+    ∷ row (codes "test") (Of kind.Test)
+    ∷ row (codes "target") (Of kind.Target)
+    ∷ row (codes "allow") (Of kind.Allow)
+    ∷ row (codes "warn") (Of kind.Warn)
+    ∷ row (codes "force-warn") (Of kind.ForceWarn)
+    ∷ row (codes "deny") (Of kind.Deny)
+    ∷ row (codes "forbid") (Of kind.Forbid)
+    ∷ row (codes "cap-lints") (Of kind.CapLints)
+    ∷ row (codes "codegen") (Of kind.Codegen)
+    ∷ row (codes "version") (Of kind.Version)
+    ∷ row (codes "verbose") (Of kind.Verbose)
+    ∷ row (codes "extern") (Of kind.Extern)
+    ∷ row (codes "extern-location") (Of kind.ExternLocation)
+    ∷ row (codes "sysroot") (Of kind.Sysroot)
+    ∷ row (codes "error-format") (Of kind.ErrorFormat)
+    ∷ row (codes "json") (Of kind.Json)
+    ∷ row (codes "color") (Of kind.Color)
+    ∷ row (codes "remap-path-prefix") (Of kind.RemapPathPrefix)
     ∷ []
 
--- the code of the row with a letter
-abbrev pub by_letter : ℕ → Option Code
-by_letter b = option_map (λ r. r.code) (read letters (λ r. r.name) (b ∷ []))
-
-abbrev pub by_name : List ℕ → Option Code
-by_name n = option_map (λ w. (spelling w).code) (read long_options (λ w. (spelling w).name) n)
+-- the code of the first row with a name
+abbrev pub code_in : List Spelling → List ℕ → Option Code
+code_in rows n = option_map (λ r. r.code) (find (λ r. bytes_eq r.name n) rows)
 
 abbrev pub rustc : Options
-rustc = record { short = by_letter; long = by_name }
+rustc = record { short = λ b. code_in letters (b ∷ []); long = code_in long_options }

@@ -3,10 +3,9 @@ ghost use Rattle.std.specs.Prelude.{◌≡◌};
 ghost use Rattle.tables.specs.Rustc.{rustc as rustcOptions};
 ghost use Rattle.tables.specs.Lawful.{rustc_lawful};
 
-use super::long::LongOption;
+use super::long::long_code;
 use super::table::Table;
 use flags::{Code, Kind};
-use words::read_word;
 
 #[derive(Clone, Copy)]
 pub struct Rustc;
@@ -37,6 +36,6 @@ impl Table for Rustc {
     }
 
     fn lookup_long(&self, name: &[u8]) -> Option<Code> {
-        Some(read_word::<LongOption>(name)?.code())
+        long_code(name)
     }
 }

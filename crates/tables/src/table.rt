@@ -37,8 +37,5 @@ pub fn knows<T: Table>(table: &T, kind: Kind) -> bool
     ensures answer { result ≡ known (T.Table.means table.now) kind }
     ensures ways { WaysAgree (T.Table.means table.now) kind }
 {
-    match code_at_home(table, kind) {
-        Some(code) => code.number() == kind.number(),
-        None => false,
-    }
+    code_at_home(table, kind) == Some(Code::Of(kind))
 }
