@@ -1,6 +1,7 @@
 -- The check's tests say what good rows are. Assumes nothing.
 use Rattle.std.proofs.Common.{◌≡◌, ℕ, zero, suc, ◌+◌, ◌<◌, ◌≤◌, Bool, true, false, cond, not, ◌&&◌, eqb, ltb, leb, List, [], ◌∷◌, length, drop, is_some, is_ok, Some, None, Ok, Err, Option, Result, sym, refl, ap, ◌∙◌, subst, ⊎_elim, arith, length-drop, length-take}
-use Rattle.std.specs.List.{slice_get}
+use Rattle.std.specs.List.{slice_get, list_all}
+use Rattle.std.specs.Option.{option_map}
 use Rattle.std.specs.Str.{bytes_eq}
 use Rattle.std.proofs.lemmas.Slice.Eq.{bytes_eq-Decides}
 use Rattle.std.proofs.lemmas.Bool.{and_parts, and_from, or_parts, or_from, both_ways, cases_Bool, cond-true, cond-false, eqb-true, eqb-false, eq-eqb, ne_eqb, leb-true, le-leb, ltb-true, lt-ltb, not-true, not_from_false}
@@ -12,7 +13,7 @@ use Rattle.flags.specs.declared.kinds.Code.{Code}
 use Rattle.flags.specs.declared.kinds.Code.TheVariants.{Of}
 use Rattle.flags.specs.declared.kinds.Kind.{Kind}
 use Rattle.rows.specs.Good.{GoodRow, OwnHome, Good, TellsGood}
-use Rattle.rows.specs.Rows.{every, name_of, number_at, name_byte, good_name, inside, good_row, in_order, well_placed, names_twice, home_name, is_number, has_home, row_home, homes, verdict}
+use Rattle.rows.specs.Rows.{name_of, row_at, number_at, name_byte, good_name, inside, good_row, in_order, well_placed, names_twice, home_name, is_number, has_home, row_home, homes, verdict}
 use Rattle.rows.specs.declared.rows.Row.{Row}
 
 -- Lists by their places.
@@ -30,14 +31,14 @@ module _ {X : Type 0} where
   past_none (x ∷ xs) (suc i) e = omega (arith, past_none xs i e)
 
   module _ (test : X → Bool) where
-    every_there : (xs : List X) → every test xs ≡ true → (i : ℕ) (x : X) → slice_get xs i ≡ Some x → test x ≡ true
+    every_there : (xs : List X) → list_all test xs ≡ true → (i : ℕ) (x : X) → slice_get xs i ≡ Some x → test x ≡ true
     every_there [] all i x e = no_place i x e
-    every_there (y ∷ xs) all zero x e = ap test (sym (first_place y x xs e)) ∙ (and_parts (test y) (every test xs) all).0
-    every_there (y ∷ xs) all (suc i) x e = every_there xs (and_parts (test y) (every test xs) all).1 i x e
+    every_there (y ∷ xs) all zero x e = ap test (sym (first_place y x xs e)) ∙ (and_parts (test y) (list_all test xs) all).0
+    every_there (y ∷ xs) all (suc i) x e = every_there xs (and_parts (test y) (list_all test xs) all).1 i x e
 
-    every_from : (xs : List X) → ((i : ℕ) (x : X) → slice_get xs i ≡ Some x → test x ≡ true) → every test xs ≡ true
+    every_from : (xs : List X) → ((i : ℕ) (x : X) → slice_get xs i ≡ Some x → test x ≡ true) → list_all test xs ≡ true
     every_from [] f = refl
-    every_from (x ∷ xs) f = and_from (test x) (every test xs) (f 0 x refl) (every_from xs (λ i y e. f (suc i) y e))
+    every_from (x ∷ xs) f = and_from (test x) (list_all test xs) (f 0 x refl) (every_from xs (λ i y e. f (suc i) y e))
 
 -- Order.
 
@@ -76,19 +77,19 @@ module _ (text : List ℕ) where
   abbrev Found : List Row → List ℕ → ℕ → Type 0
   Found rows n m = (j : ℕ) × ((row : Row) × ((slice_get rows j ≡ Some row) × (name_of text row ≡ n) × (row.code ≡ m)))
 
-  pub number_row : (rows : List Row) (n : List ℕ) (m : ℕ) → number_at text rows n ≡ Some m → Found rows n m
-  number_row [] n m e = absurd (let z : ◌≡◌ {A = ℕ} 0 1 = cc in omega arith)
-  number_row (row ∷ rows) n m e = ⊎_elim
-      (λ t. let f : Some row.code ≡ Some m = sym (cond-true _ _ _ t) ∙ e in let same : row.code ≡ m = cc in (0, (row, (refl, (bytes_eq-Decides (name_of text row) n).0 t, same))))
-      (λ t. let it = number_row rows n m (sym (cond-false _ _ _ t) ∙ e) in (suc it.0, (it.1.0, it.1.1)))
-      (cases_Bool (bytes_eq (name_of text row) n))
-
   module _ (row : Row) (rows : List Row) (n : List ℕ) where
     number_first : bytes_eq (name_of text row) n ≡ true → number_at text (row ∷ rows) n ≡ Some row.code
-    number_first t = cond-true (bytes_eq (name_of text row) n) (Some row.code) (number_at text rows n) t
+    number_first t = ap (option_map (λ r. r.code)) (cond-true (bytes_eq (name_of text row) n) (Some row) (row_at text rows n) t)
 
     number_next : bytes_eq (name_of text row) n ≡ false → number_at text (row ∷ rows) n ≡ number_at text rows n
-    number_next t = cond-false (bytes_eq (name_of text row) n) (Some row.code) (number_at text rows n) t
+    number_next t = ap (option_map (λ r. r.code)) (cond-false (bytes_eq (name_of text row) n) (Some row) (row_at text rows n) t)
+
+  pub number_row : (rows : List Row) (n : List ℕ) (m : ℕ) → number_at text rows n ≡ Some m → Found rows n m
+  number_row [] n m e = absurd (cc)
+  number_row (row ∷ rows) n m e = ⊎_elim
+      (λ t. let f : Some row.code ≡ Some m = sym (number_first row rows n t) ∙ e in let same : row.code ≡ m = cc in (0, (row, (refl, (bytes_eq-Decides (name_of text row) n).0 t, same))))
+      (λ t. let it = number_row rows n m (sym (number_next row rows n t) ∙ e) in (suc it.0, (it.1.0, it.1.1)))
+      (cases_Bool (bytes_eq (name_of text row) n))
 
   named_some : (rows : List Row) (n : List ℕ) (j : ℕ) (b : Row) → slice_get rows j ≡ Some b → name_of text b ≡ n → is_some (number_at text rows n) ≡ true
   named_some [] n j b e same = no_place j b e
@@ -165,7 +166,7 @@ module _ (text : List ℕ) (row : Row) where
   row_parts e =
       let outer = and_parts (inside text row && good_name its_name) (leb row.code 32) e in
       let inner = and_parts (inside text row) (good_name its_name) outer.0 in
-      let name = and_parts (ltb 0 (length its_name) && not (begins 45 its_name)) (every name_byte its_name) inner.1 in
+      let name = and_parts (ltb 0 (length its_name) && not (begins 45 its_name)) (list_all name_byte its_name) inner.1 in
       let front = and_parts (ltb 0 (length its_name)) (not (begins 45 its_name)) name.0 in
       let some : 0 < length its_name = ltb-true 0 (length its_name) front.0 in
       record {
@@ -186,7 +187,7 @@ module _ (text : List ℕ) (row : Row) where
       let no_dash : begins 45 its_name ≡ false = ⊎_elim (λ b. absurd (g.no_dash (there_begins its_name b))) (λ b. b) (cases_Bool (begins 45 its_name)) in
       and_from (inside text row && good_name its_name) (leb row.code 32)
       (and_from (inside text row) (good_name its_name) (le-leb (row.offset + row.length) (length text) i)
-      (and_from (ltb 0 (length its_name) && not (begins 45 its_name)) (every name_byte its_name)
+      (and_from (ltb 0 (length its_name) && not (begins 45 its_name)) (list_all name_byte its_name)
       (and_from (ltb 0 (length its_name)) (not (begins 45 its_name)) (lt-ltb 0 (length its_name) some) (not_from_false (begins 45 its_name) no_dash))
       (every_from name_byte its_name (λ k b e. byte_from b (g.bytes k b e)))))
       (le-leb row.code 32 g.a_code)
@@ -237,7 +238,7 @@ module _ (text : List ℕ) (rows : List Row) where
   good_from : is_ok (verdict text rows) ≡ true → Good text rows
   good_from e =
       let found = told_parts (well_placed text rows) (names_twice text rows) (homes text rows) e in
-      let placed = and_parts (leb (length rows) 256 && in_order 0 rows) (every (good_row text) rows) found.0 in
+      let placed = and_parts (leb (length rows) 256 && in_order 0 rows) (list_all (good_row text) rows) found.0 in
       let front = and_parts (leb (length rows) 256) (in_order 0 rows) placed.0 in
       record {
         few = leb-true (length rows) 256 front.0;
@@ -250,7 +251,7 @@ module _ (text : List ℕ) (rows : List Row) where
   from_good : Good text rows → is_ok (verdict text rows) ≡ true
   from_good g =
       told_from (well_placed text rows) (names_twice text rows) (homes text rows)
-      (and_from (leb (length rows) 256 && in_order 0 rows) (every (good_row text) rows)
+      (and_from (leb (length rows) 256 && in_order 0 rows) (list_all (good_row text) rows)
       (and_from (leb (length rows) 256) (in_order 0 rows) (le-leb (length rows) 256 g.few) (in_order_from 0 rows (λ i b e. omega arith) g.apart))
       (every_from (good_row text) rows (λ i row e. row_from text row (g.each i row e))))
       (twice_from text rows g.once)
@@ -258,3 +259,6 @@ module _ (text : List ℕ) (rows : List Row) where
 
   pub tells_good : TellsGood (is_ok (verdict text rows)) text rows
   tells_good = record { good = good_from; told = from_good }
+
+  pub tells_verdict : (r : Result (Unit {0}) Refusal) → r ≡ verdict text rows → TellsGood (is_ok r) text rows
+  tells_verdict r e = subst (λ v. TellsGood (is_ok v) text rows) (sym e) tells_good

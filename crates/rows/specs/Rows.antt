@@ -1,5 +1,7 @@
 -- Rows over a text of names: the code that a name has, and what may be wrong with rows. Assumes nothing.
 use Rattle.std.specs.Prelude.{ℕ, ◌+◌, Bool, true, false, cond, not, ◌&&◌, ◌||◌, List, [], ◌∷◌, length, take, drop, is_some, Some, None, Ok, Err, Option, Result, ◌==◌, nat_le, nat_lt}
+use Rattle.std.specs.List.{find, list_all}
+use Rattle.std.specs.Option.{option_map}
 use Rattle.std.specs.Str.{bytes_eq}
 use Rattle.text.specs.Cuts.{begins}
 use Rattle.text.specs.declared.refusals.Refusal.{Refusal}
@@ -10,20 +12,18 @@ use Rattle.flags.specs.declared.kinds.Code.TheVariants.{Of}
 use Rattle.flags.specs.declared.kinds.Kind.{Kind}
 use Rattle.rows.specs.declared.rows.Row.{Row}
 
-abbrev pub every : {X : Type 0} → (X → Bool) → List X → Bool
-every test [] = true
-every test (x ∷ xs) = test x && every test xs
-
 -- a row's name
 abbrev pub name_of : List ℕ → Row → List ℕ
 name_of text row = take row.length (drop row.offset text)
 
--- the number that the rows give a name: that of the first row with the name
-abbrev pub number_at : List ℕ → List Row → List ℕ → Option ℕ
-number_at text [] n = None
-number_at text (row ∷ rows) n = cond (bytes_eq (name_of text row) n) (Some row.code) (number_at text rows n)
+-- the first row with a name
+abbrev pub row_at : List ℕ → List Row → List ℕ → Option Row
+row_at text rows n = find (λ row. bytes_eq (name_of text row) n) rows
 
--- the code with that number
+-- the number that the rows give a name, and the code with that number
+abbrev pub number_at : List ℕ → List Row → List ℕ → Option ℕ
+number_at text rows n = option_map (λ row. row.code) (row_at text rows n)
+
 abbrev pub code_at : List ℕ → List Row → List ℕ → Option Code
 code_at text rows n = elim (number_at text rows n) [ Some m ↦ code_of m | None ↦ None ]
 
@@ -42,7 +42,7 @@ name_byte b = nat_le 33 b && nat_le b 126 && not (b == 61)
 
 -- a name has a byte, and does not begin with `-`
 abbrev pub good_name : List ℕ → Bool
-good_name n = nat_lt 0 (length n) && not (begins 45 n) && every name_byte n
+good_name n = nat_lt 0 (length n) && not (begins 45 n) && list_all name_byte n
 
 abbrev pub inside : List ℕ → Row → Bool
 inside text row = nat_le (row.offset + row.length) (length text)
@@ -56,7 +56,7 @@ in_order place [] = true
 in_order place (row ∷ rows) = nat_le place row.offset && in_order (row.offset + row.length) rows
 
 abbrev pub well_placed : List ℕ → List Row → Bool
-well_placed text rows = nat_le (length rows) 256 && in_order 0 rows && every (good_row text) rows
+well_placed text rows = nat_le (length rows) 256 && in_order 0 rows && list_all (good_row text) rows
 
 -- Two rows with one name, 9.
 
@@ -87,7 +87,7 @@ abbrev pub row_home : List ℕ → List Row → Row → Bool
 row_home text rows row = elim (code_of row.code) [ Some c ↦ has_home text rows (about c).makes | None ↦ false ]
 
 abbrev pub homes : List ℕ → List Row → Bool
-homes text rows = every (row_home text rows) rows
+homes text rows = list_all (row_home text rows) rows
 
 -- What the check answers.
 

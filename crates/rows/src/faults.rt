@@ -1,156 +1,135 @@
 // What may be wrong with rows, and the check of them.
 ghost use Rattle.std.specs.Prelude.{◌≡◌, ◌&&◌, is_ok, nat_le};
+ghost use Rattle.std.specs.List.{list_all};
 ghost use Rattle.rows.specs.Good.{TellsGood};
-ghost use Rattle.rows.specs.Rows.{every, name_byte, good_name, inside as insideOf, good_row, in_order, names_twice, undashed as undashedOf, is_number, has_home, row_home, homes as homes_of, verdict};
+ghost use Rattle.rows.specs.Rows.{name_byte, good_name, inside, good_row, in_order, names_twice, undashed, has_home, row_home, homes, verdict};
 
-use super::rows::{Row, behind, name_of, number_at};
-use flags::{Code, Kind};
+use super::rows::{Names, Row};
+use flags::Kind;
 use text::{Refusal, starts_with};
 
 // The most rows that a table has.
 pub const MOST_ROWS: usize = 256;
 
-// The number of the last code.
-const LAST_CODE: u8 = 32;
-
 fn is_name_byte(byte: u8) -> bool
     ensures { result ≡ name_byte byte }
 {
-    byte >= 0x21 && byte <= 0x7e && byte != b'='
+    byte.is_ascii_graphic() && byte != b'='
 }
 
 fn are_name_bytes(bytes: &[u8]) -> bool
-    ensures { result ≡ every name_byte bytes.now }
+    ensures { result ≡ list_all name_byte bytes.now }
 {
-    for byte in bytes {
-        if !is_name_byte(*byte) {
-            return false;
-        }
-    }
-    true
+    bytes.iter().all(|byte| is_name_byte(*byte))
 }
 
 fn is_name(name: &[u8]) -> bool
     ensures { result ≡ good_name name.now }
 {
-    name.len() > 0 && !starts_with(name, b'-') && are_name_bytes(name)
+    !name.is_empty() && !starts_with(name, b'-') && are_name_bytes(name)
 }
 
-// Whether a row lies inside the text. No sum here: a row may hold any numbers.
-fn inside(text: &[u8], row: Row) -> bool
-    ensures { result ≡ insideOf text.now row }
-{
-    row.offset <= text.len() && row.length <= text.len() - row.offset
-}
-
-fn is_good(text: &[u8], row: Row) -> bool
-    ensures { result ≡ good_row text.now row }
-{
-    inside(text, row) && is_name(name_of(text, row)) && row.code <= LAST_CODE
-}
-
-// Whether a row is good and begins at or behind a place.
-fn follows(place: usize, text: &[u8], row: Row) -> bool
-    ensures { result ≡ (nat_le place row.offset && good_row text.now row) }
-{
-    place <= row.offset && is_good(text, row)
-}
-
-// Whether each row is good and begins at or behind the end of the one before it.
-fn are_good(text: &[u8], rows: &[Row]) -> bool
-    ensures { result ≡ (in_order 0 rows.now && every (good_row text.now) rows.now) }
-{
-    let mut place = 0;
-    for row in rows {
-        if !follows(place, text, *row) {
-            return false;
-        }
-        place = row.offset + row.length;
-    }
-    true
-}
-
-// Whether a name stands twice.
-fn repeat(text: &[u8], rows: &[Row]) -> bool
-    ensures { result ≡ names_twice text.now rows.now }
-{
-    for (i, row) in rows.iter().enumerate() {
-        if number_at(text, &rows[i + 1..], name_of(text, *row)).is_some() {
-            return true;
-        }
-    }
-    false
-}
-
+// A spelling without a dash in front.
 fn undashed(spelling: &[u8]) -> &[u8]
-    ensures { result.now ≡ undashedOf spelling.now }
+    ensures { result.now ≡ undashed spelling.now }
 {
-    if starts_with(spelling, b'-') {
-        behind(spelling, 1)
-    } else {
-        spelling
+    spelling.strip_prefix(b"-").unwrap_or(spelling)
+}
+
+impl Names<'_> {
+    // Whether a row lies inside the text. A row may hold any numbers, so the sum may be past all of them.
+    fn inside(&self, row: Row) -> bool
+        ensures { result ≡ inside self.now.text.now row }
+    {
+        row.offset
+            .checked_add(row.length)
+            .is_some_and(|end| end <= self.text.len())
     }
-}
 
-fn is_number(found: Option<u8>, number: u8) -> bool
-    ensures { result ≡ is_number found number }
-{
-    match found {
-        Some(code) => code == number,
-        None => false,
+    #[tactic(auto, using(crate::proofs::Walks::is_code))]
+    fn is_good(&self, row: Row) -> bool
+        ensures { result ≡ good_row self.now.text.now row }
+    {
+        self.inside(row) && is_name(self.name_of(row)) && row.known_code().is_some()
     }
-}
 
-// Whether the rows give a kind's home spelling the kind's own code.
-fn has_home(text: &[u8], rows: &[Row], kind: Kind) -> bool
-    ensures { result ≡ has_home text.now rows.now kind }
-{
-    is_number(
-        number_at(text, rows, undashed(undashed(kind.home()))),
-        kind.number(),
-    )
-}
-
-fn row_home(text: &[u8], rows: &[Row], row: Row) -> bool
-    ensures { result ≡ row_home text.now rows.now row }
-{
-    match Code::from_number(row.code) {
-        Some(code) => has_home(text, rows, code.kind()),
-        None => false,
+    // Whether each row is good and begins at or behind the end of the one before it.
+    fn are_good(&self) -> bool
+        ensures { result ≡ (in_order 0 self.now.rows.now && list_all (good_row self.now.text.now) self.now.rows.now) }
+    {
+        let mut place = 0;
+        for row in self.rows {
+            if row.offset < place || !self.is_good(*row) {
+                return false;
+            }
+            place = row.offset + row.length;
+        }
+        true
     }
-}
 
-fn homes(text: &[u8], rows: &[Row]) -> bool
-    ensures { result ≡ homes_of text.now rows.now }
-{
-    for row in rows {
-        if !row_home(text, rows, *row) {
-            return false;
+    // Whether a name stands twice.
+    fn repeat(&self) -> bool
+        ensures { result ≡ names_twice self.now.text.now self.now.rows.now }
+    {
+        let mut rows = self.rows;
+        while let [row, later @ ..] = rows {
+            let behind = Names {
+                rows: later,
+                ..*self
+            };
+            if behind.row_at(self.name_of(*row)).is_some() {
+                return true;
+            }
+            rows = later;
+        }
+        false
+    }
+
+    // Whether the rows give a kind's home spelling the kind's own code.
+    fn has_home(&self, kind: Kind) -> bool
+        ensures { result ≡ has_home self.now.text.now self.now.rows.now kind }
+    {
+        self.row_at(undashed(undashed(kind.home())))
+            .is_some_and(|row| row.code == kind.number())
+    }
+
+    fn row_home(&self, row: Row) -> bool
+        ensures { result ≡ row_home self.now.text.now self.now.rows.now row }
+    {
+        match row.known_code() {
+            Some(code) => self.has_home(code.kind()),
+            None => false,
         }
     }
-    true
-}
 
-// The first of the three refusals that fits any of the rows.
-fn judge(text: &[u8], rows: &[Row]) -> Result<(), Refusal>
-    ensures { result ≡ verdict text.now rows.now }
-{
-    if rows.len() > MOST_ROWS || !are_good(text, rows) {
-        return Err(Refusal::BadRow);
+    fn homes(&self) -> bool
+        ensures { result ≡ homes self.now.text.now self.now.rows.now }
+    {
+        self.rows.iter().all(|row| self.row_home(*row))
     }
-    if repeat(text, rows) {
-        return Err(Refusal::NameTwice);
-    }
-    if !homes(text, rows) {
-        return Err(Refusal::HomeMissing);
-    }
-    Ok(())
-}
 
-// Whether rows are good, or the first of the refusals 8, 9 and 10 that fits any of them.
-pub fn check(text: &[u8], rows: &[Row]) -> Result<(), Refusal>
-    ensures answer { result ≡ verdict text.now rows.now }
-    ensures exact { TellsGood (is_ok result) text.now rows.now }
-{
-    judge(text, rows)
+    // The first of the three refusals that fits any of the rows.
+    fn judge(&self) -> Result<(), Refusal>
+        ensures { result ≡ verdict self.now.text.now self.now.rows.now }
+    {
+        if self.rows.len() > MOST_ROWS || !self.are_good() {
+            return Err(Refusal::BadRow);
+        }
+        if self.repeat() {
+            return Err(Refusal::NameTwice);
+        }
+        if !self.homes() {
+            return Err(Refusal::HomeMissing);
+        }
+        Ok(())
+    }
+
+    // Whether rows are good, or the first of the refusals 8, 9 and 10 that fits any of them.
+    #[tactic(auto, using(crate::proofs::Judged::tells_verdict))]
+    pub fn check(&self) -> Result<(), Refusal>
+        ensures answer { result ≡ verdict self.now.text.now self.now.rows.now }
+        ensures exact { TellsGood (is_ok result) self.now.text.now self.now.rows.now }
+    {
+        self.judge()
+    }
 }

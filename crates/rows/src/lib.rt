@@ -4,8 +4,8 @@
 mod faults;
 mod rows;
 
-pub use faults::{MOST_ROWS, check};
-pub use rows::{Row, long_code, short_code};
+pub use faults::MOST_ROWS;
+pub use rows::{Names, Row};
 
 #[cfg(test)]
 mod tests;
