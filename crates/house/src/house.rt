@@ -1,53 +1,55 @@
 // A table over borrowed rows.
 ghost use Rattle.std.specs.Prelude.{◌≡◌, true};
 ghost use Rattle.tables.specs.Tables.{nothing};
-ghost use Rattle.house.specs.House.{said, accepted, house as houseOf};
+ghost use Rattle.house.specs.House.{said, accepted, house};
 ghost use Rattle.house.specs.Laws.{said_lawful};
 
 use flags::Code;
-use rows::{Row, check, long_code, short_code};
+use rows::{Names, Row};
 use tables::Table;
 
 // The rows have passed the check, so a look-up needs no other.
-#[derive(Clone, Copy)]
+#[derive(Clone, Copy, Debug, PartialEq, Eq)]
 pub struct HouseTable<'a> {
-    text: &'a [u8],
-    rows: &'a [Row],
-    ghost checked: { accepted text.now rows.now ≡ true },
-}
-
-// A table of no rows.
-fn empty<'a>() -> HouseTable<'a>
-    ensures { said result.text.now result.rows.now ≡ nothing }
-{
-    HouseTable {
-        text: &[],
-        rows: &[],
-    }
+    names: Names<'a>,
+    ghost checked: { accepted names.text.now names.rows.now ≡ true },
 }
 
 impl<'a> HouseTable<'a> {
     // A table of these rows; one that knows no option where the check declines them.
     pub fn new(text: &'a [u8], rows: &'a [Row]) -> HouseTable<'a>
-        ensures { said result.text.now result.rows.now ≡ houseOf text.now rows.now }
+        ensures { said result.names.text.now result.names.rows.now ≡ house text.now rows.now }
     {
-        match check(text, rows) {
-            Ok(()) => HouseTable { text, rows },
-            Err(_) => empty(),
+        let names = Names { text, rows };
+        match names.check() {
+            Ok(()) => HouseTable { names },
+            Err(_) => HouseTable::empty(),
+        }
+    }
+
+    // A table of no rows.
+    fn empty() -> HouseTable<'a>
+        ensures { said result.names.text.now result.names.rows.now ≡ nothing }
+    {
+        HouseTable {
+            names: Names {
+                text: &[],
+                rows: &[],
+            },
         }
     }
 }
 
 impl Table for HouseTable<'_> {
-    ghost means = { λ t. said t.text.now t.rows.now };
+    ghost means = { λ t. said t.names.text.now t.names.rows.now };
 
-    ghost lawful = { λ t. said_lawful t.text.now t.rows.now t.checked };
+    ghost lawful = { λ t. said_lawful t.names.text.now t.names.rows.now t.checked };
 
     fn lookup_short(&self, byte: u8) -> Option<Code> {
-        short_code(self.text, self.rows, byte)
+        self.names.short_code(byte)
     }
 
     fn lookup_long(&self, name: &[u8]) -> Option<Code> {
-        long_code(self.text, self.rows, name)
+        self.names.long_code(name)
     }
 }

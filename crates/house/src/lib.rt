@@ -4,7 +4,7 @@
 mod house;
 
 pub use house::HouseTable;
-pub use rows::{Row, check};
+pub use rows::{Names, Row};
 
 #[cfg(test)]
 mod tests;

@@ -10,16 +10,8 @@ fn row(offset: usize, length: usize, code: u8) -> Row {
     }
 }
 
-// A code's number, or 99.
-fn number(found: Option<Code>) -> u8 {
-    match found {
-        Some(code) => code.number(),
-        None => 99,
-    }
-}
-
-fn short<T: Table>(table: &T, byte: u8) -> u8 {
-    number(table.lookup_short(byte))
+fn number(found: Option<Code>) -> Option<u8> {
+    found.map(|code| code.number())
 }
 
 // rustc's letters, and the home spellings of their kinds.
@@ -51,19 +43,19 @@ fn letters(rt: HostRuntime) {
     ];
     let table = HouseTable::new(text, &rows);
     for byte in 0..=255u8 {
-        assert_eq!(rt; short(&table, byte), short(&Rustc, byte));
+        assert_eq!(rt; table.lookup_short(byte), Rustc.lookup_short(byte));
     }
     assert_eq!(rt; knows(&table, Kind::Forbid), true);
     assert_eq!(rt; knows(&table, Kind::Cfg), false);
-    let names: [(&[u8], u8); 8] = [
-        (b"help", 0),
-        (b"forbid", 18),
-        (b"verbose", 22),
-        (b"codegen", 99),
-        (b"Z", 99),
-        (b"hL", 99),
-        (b"hel", 99),
-        (b"", 99),
+    let names: [(&[u8], Option<u8>); 8] = [
+        (b"help", Some(0)),
+        (b"forbid", Some(18)),
+        (b"verbose", Some(22)),
+        (b"codegen", None),
+        (b"Z", None),
+        (b"hL", None),
+        (b"hel", None),
+        (b"", None),
     ];
     for (name, code) in names {
         assert_eq!(rt; number(table.lookup_long(name)), code);
@@ -71,7 +63,7 @@ fn letters(rt: HostRuntime) {
 }
 
 // What a table knows of `-O`, `-Z` and `--help`.
-fn known<'a>(text: &'a [u8], rows: &'a [Row]) -> (u8, u8, u8) {
+fn known<'a>(text: &'a [u8], rows: &'a [Row]) -> (Option<u8>, Option<u8>, Option<u8>) {
     let table = HouseTable::new(text, rows);
     (
         number(table.lookup_short(b'O')),
@@ -83,13 +75,13 @@ fn known<'a>(text: &'a [u8], rows: &'a [Row]) -> (u8, u8, u8) {
 // Rows that the check declines give a table that knows nothing, and so do no rows.
 #[test]
 fn declined(rt: HostRuntime) {
-    let nothing = (99, 99, 99);
+    let nothing = (None, None, None);
     assert_eq!(rt; known(b"", &[]), nothing);
     assert_eq!(rt; known(b"O", &[row(0, 1, 32)]), nothing);
     assert_eq!(rt; known(b"ZZ", &[row(0, 1, 26), row(1, 1, 26)]), nothing);
     assert_eq!(rt; known(b"Zhelp", &[row(0, 1, 26), row(1, 5, 0)]), nothing);
     assert_eq!(rt;
         known(b"Zhelp", &[row(0, 1, 26), row(1, 4, 0)]),
-        (99, 26, 0)
+        (None, Some(26), Some(0))
     );
 }
