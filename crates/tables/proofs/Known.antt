@@ -63,14 +63,14 @@ module _ (o : Options) (k : Kind) where
   only_own (Some c) e = ap Some (same_code k c (eqb-true _ _ e))
 
   given_in : (f : Form) → in_form o f ≡ Some (Of k) → Given o k
-  given_in empty e = absurd (let z : ◌≡◌ {A = ℕ} 0 1 = cc in omega arith)
-  given_in single e = absurd (let z : ◌≡◌ {A = ℕ} 0 1 = cc in omega arith)
-  given_in double e = absurd (let z : ◌≡◌ {A = ℕ} 0 1 = cc in omega arith)
+  given_in empty e = absurd (cc)
+  given_in single e = absurd (cc)
+  given_in double e = absurd (cc)
   given_in (long name) e = by_name name (Of k) e (own k)
-  given_in (short []) e = absurd (let z : ◌≡◌ {A = ℕ} 0 1 = cc in omega arith)
+  given_in (short []) e = absurd (cc)
   given_in (short (b ∷ [])) e = by_letter b (Of k) e (own k)
-  given_in (short (b ∷ c ∷ bs)) e = absurd (let z : ◌≡◌ {A = ℕ} 0 1 = cc in omega arith)
-  given_in plain e = absurd (let z : ◌≡◌ {A = ℕ} 0 1 = cc in omega arith)
+  given_in (short (b ∷ c ∷ bs)) e = absurd (cc)
+  given_in plain e = absurd (cc)
 
   pub ways_agree : Lawful o → WaysAgree o k
   ways_agree laws = record {

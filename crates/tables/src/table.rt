@@ -22,8 +22,7 @@ pub trait Table {
 
 // The code at the spelling in which a kind is written.
 fn code_at_home<T: Table>(table: &T, kind: Kind) -> Option<Code>
-    ensures code { result ≡ at_home (T.Table.means table.now) kind }
-    ensures ways { WaysAgree (T.Table.means table.now) kind }
+    ensures { result ≡ at_home (T.Table.means table.now) kind }
 {
     match shape_of(kind.home()) {
         Shape::Long(name) => table.lookup_long(name),
