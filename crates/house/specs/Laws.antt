@@ -75,7 +75,7 @@ module _ (text : List ℕ) (rows : List Row) where
   long_code : (n : List ℕ) (c : Code) → (said text rows).long n ≡ Some c → code_at text rows n ≡ Some c
   long_code n c e = ⊎_elim
       (λ t. sym (cond-true _ _ _ t) ∙ e)
-      (λ t. let f : None ≡ Some c = sym (cond-false _ _ _ t) ∙ e in absurd (let z : ◌≡◌ {A = ℕ} 0 1 = cc in omega arith))
+      (λ t. let f : None ≡ Some c = sym (cond-false _ _ _ t) ∙ e in absurd (cc))
       (cases_Bool (leb 2 (length n)))
 
   module _ (g : Good text rows) where
@@ -99,7 +99,7 @@ module _ (text : List ℕ) (rows : List Row) where
 
     -- the kind that a known name's code makes is at home
     kind_home : (n : List ℕ) (c : Code) (o : Option ℕ) → number_at text rows n ≡ o → coded o ≡ Some c → AtHome (said text rows) (about c).makes
-    kind_home n c None e f = absurd (let z : ◌≡◌ {A = ℕ} 0 1 = cc in omega arith)
+    kind_home n c None e f = absurd (cc)
     kind_home n c (Some m) e f =
         let k = (about c).makes in
         let it = number_row text rows n m e in

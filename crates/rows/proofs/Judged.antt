@@ -12,6 +12,7 @@ use Rattle.flags.specs.Codes.{about, all_codes, code_of}
 use Rattle.flags.specs.declared.kinds.Code.{Code}
 use Rattle.flags.specs.declared.kinds.Code.TheVariants.{Of}
 use Rattle.flags.specs.declared.kinds.Kind.{Kind}
+use Rattle.rows.proofs.Coded.{is_code}
 use Rattle.rows.specs.Good.{GoodRow, OwnHome, Good, TellsGood}
 use Rattle.rows.specs.Rows.{name_of, row_at, number_at, name_byte, good_name, inside, good_row, in_order, well_placed, names_twice, home_name, is_number, has_home, row_home, homes, verdict}
 use Rattle.rows.specs.declared.rows.Row.{Row}
@@ -19,20 +20,12 @@ use Rattle.rows.specs.declared.rows.Row.{Row}
 -- Lists by their places.
 
 module _ {X : Type 0} where
-  no_place : {Y : Type 0} (i : ℕ) (x : X) → slice_get [] i ≡ Some x → Y
-  no_place i x e = absurd (let z : ◌≡◌ {A = ℕ} 0 1 = cc in omega arith)
-
   first_place : (y x : X) (xs : List X) → slice_get (y ∷ xs) 0 ≡ Some x → y ≡ x
   first_place y x xs e = cc
 
-  past_none : (xs : List X) (i : ℕ) → slice_get xs i ≡ None → length xs ≤ i
-  past_none [] i e = omega arith
-  past_none (x ∷ xs) zero e = absurd (let z : ◌≡◌ {A = ℕ} 0 1 = cc in omega arith)
-  past_none (x ∷ xs) (suc i) e = omega (arith, past_none xs i e)
-
   module _ (test : X → Bool) where
     every_there : (xs : List X) → list_all test xs ≡ true → (i : ℕ) (x : X) → slice_get xs i ≡ Some x → test x ≡ true
-    every_there [] all i x e = no_place i x e
+    every_there [] all i x e = absurd (cc)
     every_there (y ∷ xs) all zero x e = ap test (sym (first_place y x xs e)) ∙ (and_parts (test y) (list_all test xs) all).0
     every_there (y ∷ xs) all (suc i) x e = every_there xs (and_parts (test y) (list_all test xs) all).1 i x e
 
@@ -46,7 +39,7 @@ abbrev Apart : List Row → Type 0
 Apart rows = (i j : ℕ) (a b : Row) → i < j → slice_get rows i ≡ Some a → slice_get rows j ≡ Some b → a.offset + a.length ≤ b.offset
 
 behind_place : (place : ℕ) (rows : List Row) → in_order place rows ≡ true → (j : ℕ) (b : Row) → slice_get rows j ≡ Some b → place ≤ b.offset
-behind_place place [] o j b e = no_place j b e
+behind_place place [] o j b e = absurd (cc)
 behind_place place (row ∷ rows) o zero b e = subst (λ (r : Row). place ≤ r.offset) (first_place row b rows e) (leb-true place row.offset (and_parts (leb place row.offset) (in_order (row.offset + row.length) rows) o).0)
 behind_place place (row ∷ rows) o (suc j) b e =
     let parts = and_parts (leb place row.offset) (in_order (row.offset + row.length) rows) o in
@@ -55,7 +48,7 @@ behind_place place (row ∷ rows) o (suc j) b e =
     omega arith
 
 apart_from : (place : ℕ) (rows : List Row) → in_order place rows ≡ true → Apart rows
-apart_from place [] o i j a b l e f = no_place i a e
+apart_from place [] o i j a b l e f = absurd (cc)
 apart_from place (row ∷ rows) o zero zero a b l e f = absurd (omega arith)
 apart_from place (row ∷ rows) o zero (suc j) a b l e f = subst (λ (r : Row). r.offset + r.length ≤ b.offset) (first_place row a rows e) (behind_place (row.offset + row.length) rows (and_parts (leb place row.offset) (in_order (row.offset + row.length) rows) o).1 j b f)
 apart_from place (row ∷ rows) o (suc i) zero a b l e f = absurd (omega arith)
@@ -92,7 +85,7 @@ module _ (text : List ℕ) where
       (cases_Bool (bytes_eq (name_of text row) n))
 
   named_some : (rows : List Row) (n : List ℕ) (j : ℕ) (b : Row) → slice_get rows j ≡ Some b → name_of text b ≡ n → is_some (number_at text rows n) ≡ true
-  named_some [] n j b e same = no_place j b e
+  named_some [] n j b e same = absurd (cc)
   named_some (row ∷ rows) n zero b e same = ap is_some (number_first row rows n ((bytes_eq-Decides (name_of text row) n).1 (ap (name_of text) (first_place row b rows e) ∙ same)))
   named_some (row ∷ rows) n (suc j) b e same = ⊎_elim
       (λ t. ap is_some (number_first row rows n t))
@@ -107,7 +100,7 @@ module _ (text : List ℕ) where
       (cases_Bool (bytes_eq (name_of text row) n))
 
   once_from : (rows : List Row) → names_twice text rows ≡ false → Once rows
-  once_from [] o i j a b l e f same = no_place i a e
+  once_from [] o i j a b l e f same = absurd (cc)
   once_from (row ∷ rows) o zero zero a b l e f same = absurd (omega arith)
   once_from (row ∷ rows) o zero (suc j) a b l e f same =
       let none = (or_parts (is_some (number_at text rows (name_of text row))) (names_twice text rows) o).0 in
@@ -127,7 +120,7 @@ module _ (text : List ℕ) where
 
   -- where no name stands twice, the row with a name is the one that counts
   number_there : (rows : List Row) → Once rows → (j : ℕ) (own : Row) → slice_get rows j ≡ Some own → number_at text rows (name_of text own) ≡ Some own.code
-  number_there [] once j own e = no_place j own e
+  number_there [] once j own e = absurd (cc)
   number_there (row ∷ rows) once zero own e =
       let same = first_place row own rows e in
       number_first row rows (name_of text own) ((bytes_eq-Decides (name_of text row) (name_of text own)).1 (ap (name_of text) same)) ∙ ap (λ (r : Row). Some r.code) same
@@ -148,7 +141,7 @@ byte_from : (b : ℕ) → (33 ≤ b) × (b ≤ 126) × (b ≡ 61 → ⊥) → na
 byte_from b h = and_from (leb 33 b && leb b 126) (not (eqb b 61)) (and_from (leb 33 b) (leb b 126) (le-leb 33 b h.0) (le-leb b 126 h.1)) (not_from_false (eqb b 61) (ne_eqb b 61 h.2))
 
 begins_there : (n : List ℕ) → slice_get n 0 ≡ Some 45 → begins 45 n ≡ true
-begins_there [] e = no_place 0 45 e
+begins_there [] e = absurd (cc)
 begins_there (b ∷ n) e = eq-eqb b 45 (first_place b 45 n e)
 
 there_begins : (n : List ℕ) → begins 45 n ≡ true → slice_get n 0 ≡ Some 45
@@ -217,7 +210,7 @@ module _ (text : List ℕ) (rows : List Row) where
   has_own_home g kind h = ap (λ o. is_number o (about (Of kind)).number) (home_number g kind h) ∙ eq-eqb (about (Of kind)).number (about (Of kind)).number refl
 
   coded_home : Good text rows → (i : ℕ) (row : Row) → slice_get rows i ≡ Some row → (o : Option Code) → code_of row.code ≡ o → row_home text rows row ≡ true
-  coded_home g i row e None f = absurd (let low : row.code ≤ 32 = (g.each i row e).a_code in let past : 33 ≤ row.code = past_none all_codes row.code f in omega arith)
+  coded_home g i row e None f = absurd (both_ways _ (ap is_some f) (is_code row.code ∙ le-leb row.code 32 (g.each i row e).a_code))
   coded_home g i row e (Some c) f = row_home_by row c f ∙ has_own_home g (about c).makes (g.homed i row c e f)
 
 -- What the check found.

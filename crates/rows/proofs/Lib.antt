@@ -1,2 +1,2 @@
+mod Coded
 pub mod Judged
-mod Walks

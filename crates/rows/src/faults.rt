@@ -6,7 +6,7 @@ ghost use Rattle.rows.specs.Rows.{name_byte, good_name, inside, good_row, in_ord
 
 use super::rows::{Names, Row};
 use flags::Kind;
-use text::{Refusal, starts_with};
+use text::Refusal;
 
 // The most rows that a table has.
 pub const MOST_ROWS: usize = 256;
@@ -26,7 +26,7 @@ fn are_name_bytes(bytes: &[u8]) -> bool
 fn is_name(name: &[u8]) -> bool
     ensures { result ≡ good_name name.now }
 {
-    !name.is_empty() && !starts_with(name, b'-') && are_name_bytes(name)
+    !name.is_empty() && !name.starts_with(b"-") && are_name_bytes(name)
 }
 
 // A spelling without a dash in front.
@@ -46,7 +46,7 @@ impl Names<'_> {
             .is_some_and(|end| end <= self.text.len())
     }
 
-    #[tactic(auto, using(crate::proofs::Walks::is_code))]
+    #[tactic(auto, using(crate::proofs::Coded::is_code))]
     fn is_good(&self, row: Row) -> bool
         ensures { result ≡ good_row self.now.text.now row }
     {
@@ -124,7 +124,7 @@ impl Names<'_> {
         Ok(())
     }
 
-    // Whether rows are good, or the first of the refusals 8, 9 and 10 that fits any of them.
+    // Whether the rows are good, or the first of these refusals that fits any of them: `BadRow`, `NameTwice`, `HomeMissing`.
     #[tactic(auto, using(crate::proofs::Judged::tells_verdict))]
     pub fn check(&self) -> Result<(), Refusal>
         ensures answer { result ≡ verdict self.now.text.now self.now.rows.now }
