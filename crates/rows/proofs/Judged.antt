@@ -8,7 +8,7 @@ use Rattle.std.proofs.lemmas.Bool.{and_parts, and_from, or_parts, or_from, both_
 use Rattle.text.specs.Cuts.{begins}
 use Rattle.text.specs.declared.refusals.Refusal.{Refusal}
 use Rattle.text.specs.declared.refusals.Refusal.TheVariants.{BadRow, NameTwice, HomeMissing}
-use Rattle.flags.specs.Codes.{about, all_codes, code_of}
+use Rattle.flags.specs.Codes.{about, code_of}
 use Rattle.flags.specs.declared.kinds.Code.{Code}
 use Rattle.flags.specs.declared.kinds.Code.TheVariants.{Of}
 use Rattle.flags.specs.declared.kinds.Kind.{Kind}

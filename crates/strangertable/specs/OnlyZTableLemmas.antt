@@ -1,5 +1,5 @@
 -- The laws of a table of one option. Assumes nothing.
-use Rattle.std.specs.Prelude.{◌≡◌, ℕ, Some, None, ◌==◌, refl}
+use Rattle.std.specs.Prelude.{◌==◌, refl}
 use Rattle.std.proofs.Common.{ap, subst, ◌∙◌, arith}
 use Rattle.std.proofs.lemmas.Option.{cond_some}
 use Rattle.std.proofs.lemmas.Bool.{cond-false, ne_eqb}
