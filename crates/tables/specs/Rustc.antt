@@ -1,11 +1,12 @@
 -- The options of rustc, from the list of its command-line arguments in the rustc book. Assumes nothing.
-use Rattle.std.specs.Prelude.{ℕ, List, [], ◌∷◌, codes, Option}
-use Rattle.std.specs.List.{find}
+use Rattle.std.specs.Prelude.{◌≡◌, ℕ, true, List, [], ◌∷◌, Some, codes, Option}
+use Rattle.std.specs.List.{AllByRecursion, find}
 use Rattle.std.specs.Option.{option_map}
 use Rattle.std.specs.Str.{bytes_eq}
 use Rattle.flags.specs.declared.kinds.Code.{Code}
 use Rattle.flags.specs.declared.kinds.Code.TheVariants.{Of, Debuginfo, Optimize}
 use Rattle.flags.specs.declared.kinds.Kind.TheVariants as kind
+use Rattle.words.specs.Reading.{clean}
 use Rattle.tables.specs.Tables.{Options}
 
 pub record Spelling : Type 0 where
@@ -67,6 +68,11 @@ long_options =
 -- the code of the first row with a name
 abbrev pub code_in : List Spelling → List ℕ → Option Code
 code_in rows n = option_map (λ r. r.code) (find (λ r. bytes_eq r.name n) rows)
+
+-- each long name gives its own option, and is clean as a word is
+pub record LongNames : Type 0 where
+  pub own : AllByRecursion (λ r. code_in long_options r.name ≡ Some r.code) long_options
+  pub clean_names : AllByRecursion (λ r. clean r.name ≡ true) long_options
 
 abbrev pub rustc : Options
 rustc = record { short = λ b. code_in letters (b ∷ []); long = code_in long_options }

@@ -1,9 +1,10 @@
 // The long options of rustc.
 ghost use Rattle.std.specs.Prelude.{◌≡◌, map};
-ghost use Rattle.tables.specs.Rustc.{row, long_options, code_in};
+ghost use Rattle.tables.specs.Rustc.{row, long_options, code_in, LongNames};
 
 use flags::{Code, Kind};
 
+// In the order of the book, and searched from the first on: there is no heap for a map.
 const LONG_OPTIONS: [(&[u8], Kind); 27] = [
     (b"help", Kind::Help),
     (b"cfg", Kind::Cfg),
@@ -46,7 +47,8 @@ fn code_in(options: &[(&[u8], Kind)], name: &[u8]) -> Option<Code>
 
 // The code of the long option with this name.
 pub(crate) fn long_code(name: &[u8]) -> Option<Code>
-    ensures { result ≡ code_in long_options name.now }
+    ensures answer { result ≡ code_in long_options name.now }
+    ensures names { LongNames }
 {
     code_in(&LONG_OPTIONS, name)
 }
