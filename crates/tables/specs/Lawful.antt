@@ -37,7 +37,7 @@ abbrev Letter : Spelling → Type 0
 Letter r = (slice_index r.name 0 ≤ 127) × AtHome rustc (about r.code).makes
 
 each_letter : AllByRecursion Letter letters
-each_letter = ((omega arith, refl), ((omega arith, refl), ((omega arith, refl), ((omega arith, refl), ((omega arith, refl), ((omega arith, refl), ((omega arith, refl), ((omega arith, refl), ((omega arith, refl), ((omega arith, refl), ((omega arith, refl), ((omega arith, refl), ((omega arith, refl), ((omega arith, refl), tt))))))))))))))
+each_letter = search rules
 
 -- a row's name is a name, and its kind is at home
 abbrev Name : Spelling → Type 0
