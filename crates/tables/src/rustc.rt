@@ -1,17 +1,17 @@
 // The table of rustc's own options.
 ghost use Rattle.std.specs.Prelude.{◌≡◌};
-ghost use Rattle.tables.specs.Rustc.{rustc as rustcOptions};
+ghost use Rattle.tables.specs.Rustc.{rustc};
 ghost use Rattle.tables.specs.Lawful.{rustc_lawful};
 
 use super::long::long_code;
 use super::table::Table;
 use flags::{Code, Kind};
 
-#[derive(Clone, Copy)]
+#[derive(Clone, Copy, Debug, PartialEq, Eq)]
 pub struct Rustc;
 
 impl Table for Rustc {
-    ghost means = { λ _. rustcOptions };
+    ghost means = { λ _. rustc };
 
     ghost lawful = { λ t. rustc_lawful };
 
