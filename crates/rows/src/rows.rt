@@ -25,7 +25,7 @@ impl Row {
     pub(crate) fn known_code(self) -> Option<Code>
         ensures { result ≡ code_of self.code }
     {
-        Code::from_number(self.code)
+        Code::try_from(self.code).ok()
     }
 }
 

@@ -9,7 +9,7 @@ fn number(code: Option<Code>) -> Option<u8> {
 #[test]
 fn knows_one_kind(rt: HostRuntime) {
     for place in 0..33u8 {
-        if let Some(Code::Of(kind)) = Code::from_number(place) {
+        if let Ok(Code::Of(kind)) = Code::try_from(place) {
             assert_eq!(rt; knows(&OnlyZ, kind), place == 26);
             assert!(rt; knows(&Rustc, kind));
         }
