@@ -1,5 +1,5 @@
 -- What a turn tells, carried from one definition to the next. Assumes nothing.
-use Rattle.std.proofs.Common.{◌≡◌, ℕ, ◌+◌, ◌-◌, ◌<◌, ◌≤◌, List, [], ◌∷◌, length, drop, Some, None, Option, sym, refl, ap, ◌∙◌, subst, arith}
+use Rattle.std.proofs.Common.{◌≡◌, ℕ, ◌+◌, ◌-◌, List, [], ◌∷◌, length, drop, Some, None, Option, sym, refl, ap, ◌∙◌, subst}
 use Rattle.flags.specs.Codes.{about}
 use Rattle.flags.specs.Meaning.{Bytes}
 use Rattle.flags.specs.declared.kinds.Code.{Code}
@@ -8,12 +8,10 @@ use Rattle.text.specs.Cuts.{Halves, cut_first}
 use Rattle.tables.specs.Tables.{Options}
 use Rattle.reading.specs.Reading.{State, free, long_owed}
 use Rattle.reading.specs.Left.{First, between, in_cluster, behind, first_from, first_taken, first_equipped, first_alone, first_long, first_rest, first_letter, first}
-use Rattle.reader.specs.Cursors.{args_behind, left_in, left_of}
-use Rattle.reader.specs.declared.cursor.Cursor.{Cursor}
+use Rattle.reader.specs.Cursors.{args_behind, left_in}
 use Rattle.reader.specs.declared.cursor.State.{State as At}
-use Rattle.reader.specs.Turns.{Tells, ArgumentAt, weight, weight_in}
+use Rattle.reader.specs.Turns.{Tells, weight_in}
 use Rattle.reader.specs.declared.turns.Turn.{Turn}
-use Rattle.reader.proofs.Arguing.{argument_there, place_bounds}
 use Rattle.reader.proofs.Leaving.{pieces_here, pieces_later, piece_on, piece_past, args_past, no_piece, args_here, first_behind}
 
 pub tells_by : (o : Options) (text : Bytes) (w : ℕ) (r : Turn) (f g : First) → f ≡ g → Tells o text w g r → Tells o text w f r
@@ -29,16 +27,6 @@ module _ (args : List Bytes) (later : State → First) (c : Code) (takes : None 
   alone_takes k e =
       ap (first_alone args later) (sym e)
       ∙ ap (λ f. elim f as (λ _. First) [ Some flag ↦ Some (flag, between (behind args)) | None ↦ later (long_owed c) ]) (sym takes)
-
-abbrev Taken : Options → Bytes → ℕ → Turn → Code → Bytes → ℕ → ℕ → Type 0
-Taken o text w r c a end place = (args : List Bytes) → ArgumentAt text a end place args → (length text - place) + (length text - place) < w → Tells o text w (first_taken c a args (first_from o free args)) r
-
--- the argument at a place
-pub taken_here : (o : Options) (text : Bytes) (at w : ℕ) (c : Code) (r : Turn) (a : Bytes) (place : ℕ) → a ≡ piece_at 31 text at → place ≡ place_behind 31 text at → at ≤ length text → (length text - at) + (length text - at) < w → Taken o text w r c a (at + length a) place → Tells o text w (first_taken c (piece_at 31 text at) (args_behind text at) (first_from o free (args_behind text at))) r
-taken_here o text at w c r a place is behind' in' less tells =
-    let here : ArgumentAt text a (at + length a) place (args_behind text at) = argument_there text at in' a place is behind' in
-    let bounds = place_bounds text at in' in
-    subst (λ b. Tells o text w (first_taken c b (args_behind text at) (first_from o free (args_behind text at))) r) is (tells (args_behind text at) here (omega (arith, bounds.0, bounds.1, behind')))
 
 module _ (args : List Bytes) (later : State → First) (o : Options) (body : Bytes) where
   by_cut : (cut : Option Halves) → cut ≡ cut_first 61 body → first_long args later o body ≡ elim cut [ Some h ↦ first_equipped args later (o.long h.0) h.1 | None ↦ first_alone args later (o.long body) ]
@@ -81,6 +69,6 @@ module _ (args : List Bytes) (later : State → First) (bs : Bytes) where
   pub letter_unknown : (k : Option Code) → None ≡ k → first_letter args later k bs ≡ later free
   letter_unknown k e = ap (λ x. first_letter args later x bs) (sym e)
 
--- a cursor in a state that is known
-pub in_state : (o : Options) (text : Bytes) (r : Turn) (c : Cursor) (s : At) → c.state ≡ s → Tells o text (weight_in s (length text - c.at)) (first o (left_in s text c.at)) r → Tells o text (weight text c) (first o (left_of c text)) r
-in_state o text r c s e t = subst (λ x. Tells o text (weight_in x (length text - c.at)) (first o (left_in x text c.at)) r) (sym e) t
+-- in a state that is known
+pub in_state : (o : Options) (text : Bytes) (r : Turn) (at : ℕ) (t s : At) → t ≡ s → Tells o text (weight_in s (length text - at)) (first o (left_in s text at)) r → Tells o text (weight_in t (length text - at)) (first o (left_in t text at)) r
+in_state o text r at t s e = subst (λ x. Tells o text (weight_in x (length text - at)) (first o (left_in x text at)) r) (sym e)

@@ -1,9 +1,10 @@
 -- What one turn of a reader tells: the definitions go on from there. It adds nothing to them. Assumes nothing.
-use Rattle.std.specs.Prelude.{◌≡◌, ℕ, suc, ◌+◌, ◌-◌, ◌<◌, ◌≤◌, List, [], ◌∷◌, ◌++◌, length, take, drop, Some, None, Option}
+use Rattle.std.specs.Prelude.{◌≡◌, ℕ, suc, ◌+◌, ◌-◌, ◌<◌, ◌≤◌, List, [], ◌∷◌, length, take, drop, Some, None, Option}
 use Rattle.flags.specs.Meaning.{Bytes, meaning}
+use Rattle.flags.specs.declared.kinds.Code.{Code}
 use Rattle.text.specs.Arguments.{separator, pieces}
 use Rattle.tables.specs.Tables.{Options}
-use Rattle.reading.specs.Left.{First, behind, first}
+use Rattle.reading.specs.Left.{Left, First, between, in_list, behind, first_made_of, first}
 use Rattle.reader.specs.Cursors.{left_of}
 use Rattle.reader.specs.declared.cursor.Cursor.{Cursor}
 use Rattle.reader.specs.declared.cursor.State.{State}
@@ -27,14 +28,23 @@ Tells o text w f (Gives flag c) = (f ≡ Some (meaning flag, left_of c text)) ×
 Tells o text w f (Passes c) = (f ≡ first o (left_of c text)) × (weight text c < w)
 Tells o text w f Ends = f ≡ None
 
--- an argument in a text: where it ends, the place behind its separator, and the arguments behind it
-pub record ArgumentAt (text argument : Bytes) (end place : ℕ) (args : List Bytes) : Type 0 where
-  pub front : Bytes
-  pub there : take end text ≡ front ++ argument
+-- the last bytes of an argument, or of a list, in a text: they end at a place, and behind is another
+pub record PartAt (text bytes : Bytes) (end place : ℕ) : Type 0 where
+  pub there : bytes ≡ take (length bytes) (drop (end - length bytes) text)
   pub within : end ≤ length text
   pub place_within : place ≤ length text
+
+-- the same with the arguments behind: the place is behind the separator
+pub record ArgumentAt (text bytes : Bytes) (end place : ℕ) (args : List Bytes) : Type 0 where
+  pub part : PartAt text bytes end place
   pub at_end : pieces separator (drop end text) ≡ [] ∷ args
   pub later : pieces separator (drop place text) ≡ behind args
+
+-- the first flag that an option makes of bytes that end at a place, or else of what stands at the place behind
+abbrev pub first_made_at : Options → Code → Bytes → Bytes → ℕ → ℕ → First
+first_made_at o c text bytes end place =
+    let on : Left = between (pieces separator (drop place text)) in
+    first_made_of c bytes on (λ rest. in_list c rest (pieces separator (drop end text))) (first o on)
 
 -- the byte at a place, if there is one
 pub record ByteAt (text : Bytes) (at : ℕ) (x : ℕ) : Type 0 where

@@ -4,29 +4,12 @@ ghost use Rattle.std.specs.Option.{option_map, option_to_list};
 ghost use Rattle.flags.specs.Meaning.{meaning};
 ghost use Rattle.reading.specs.Left.{first, after, coming};
 ghost use Rattle.reader.specs.Cursors.{left_of, opened, AllComing, at_end, Comes};
-ghost use Rattle.reader.specs.Turns.{weight};
 
 use super::cursor::{Cursor, State};
 use super::turns::{Turn, one_turn};
 use flags::Flag;
 use tables::Table;
 use text::{Refusal, check_text};
-
-// A place past the text is its end.
-fn clipped(cursor: Cursor, text: &[u8]) -> Cursor
-    ensures same { left_of result text.now ≡ left_of cursor text.now }
-    ensures within { result.at ≤ length text.now }
-    ensures weighs { weight text.now result ≡ weight text.now cursor }
-{
-    if cursor.at <= text.len() {
-        cursor
-    } else {
-        Cursor {
-            at: text.len(),
-            state: cursor.state,
-        }
-    }
-}
 
 fn next_from<'a, T: Table>(table: &T, start: Cursor, text: &'a [u8]) -> (Option<Flag<'a>>, Cursor)
     ensures answer { option_map meaning result.0 ≡ option_map (λ p. p.0) (first (T.Table.means table.now) (left_of start text.now)) }
@@ -36,7 +19,7 @@ fn next_from<'a, T: Table>(table: &T, start: Cursor, text: &'a [u8]) -> (Option<
 {
     let mut cursor = start;
     loop {
-        match one_turn(table, clipped(cursor, text), text) {
+        match one_turn(table, cursor, text) {
             Turn::Gives(flag, behind) => return (Some(flag), behind),
             Turn::Passes(on) => cursor = on,
             Turn::Ends => {
@@ -56,10 +39,7 @@ fn at_start(text: &[u8]) -> Result<Cursor, Refusal>
     ensures all { AllComing text.now }
 {
     check_text(text)?;
-    Ok(Cursor {
-        at: 0,
-        state: State::Between,
-    })
+    Ok(Cursor::between(0))
 }
 
 impl Cursor {

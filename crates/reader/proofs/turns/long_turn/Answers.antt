@@ -5,16 +5,18 @@ use Rattle.reader.proofs.Arguing.{argument_cut, cut_shorter}
 use Rattle.reader.proofs.Turning.{tells_by, long_equipped, long_alone}
 use Rattle.reader.proofs.turns.long_turn.Goals as goal
 
-pub equipped-requires : goal.equipped-requires
-equipped-requires g c = let shorter = cut_shorter 61 c.args.body.now (c.in-Some.name.now, c.in-Some.arg.now) (search rules) in search (rules, shorter)
+pub invariant_of-argument : goal.invariant_of-argument
+invariant_of-argument g c =
+    let shorter = cut_shorter 61 c.args.body.bytes.now (c.in-Some.name.now, c.in-Some.bytes.now) (search rules) in
+    record { long = search (rules, shorter, c.args.body.long) }
 
 pub returns-in-Some : goal.returns-in-Some
 returns-in-Some g c =
     let o = g.T.Table.means c.args.table.now in
-    let h : Halves = (c.in-Some.name.now, c.in-Some.arg.now) in
-    λ args w is less. tells_by o _ w _ _ _ (long_equipped args (λ t. first_from o t args) o c.args.body.now h (search rules)) (c.equipped.ensures args w (argument_cut _ c.args.body.now h 61 _ _ args (search rules) is) less)
+    let h : Halves = (c.in-Some.name.now, c.in-Some.bytes.now) in
+    λ args w is less. tells_by o _ w _ _ _ (long_equipped args (λ t. first_from o t args) o c.args.body.bytes.now h (search rules)) (c.equipped.ensures _ args w (argument_cut _ c.args.body.bytes.now h 61 _ _ args (search rules) c.args.body.long is) less)
 
 pub returns-in-None : goal.returns-in-None
 returns-in-None g c =
     let o = g.T.Table.means c.args.table.now in
-    λ args w is less. tells_by o _ w _ _ _ (long_alone args (λ t. first_from o t args) o c.args.body.now (search rules)) (c.alone.ensures args w is.later less)
+    λ args w is less. tells_by o _ w _ _ _ (long_alone args (λ t. first_from o t args) o c.args.body.bytes.now (search rules)) (c.alone.ensures args w is.later less)

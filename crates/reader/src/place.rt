@@ -1,0 +1,65 @@
+// Places in a text, and what stands there.
+ghost use Rattle.std.specs.Prelude.{◌≡◌, ◌+◌, ◌≤◌, length, take, drop};
+
+use text::{SEPARATOR, piece_at};
+
+// A place in a text.
+#[derive(Clone, Copy)]
+pub(crate) struct Place<'a> {
+    pub(crate) text: &'a [u8],
+    pub(crate) at: usize,
+    ghost within: { at ≤ length text.now },
+}
+
+// An argument or the last bytes of one, the place where they end, and the place where reading goes on behind them.
+#[derive(Clone, Copy)]
+pub(crate) struct Argument<'a> {
+    pub(crate) bytes: &'a [u8],
+    pub(crate) end: usize,
+    pub(crate) behind: usize,
+    ghost long: { length bytes.now ≤ end },
+}
+
+impl<'a> Place<'a> {
+    ghost use Rattle.text.specs.Arguments.{piece_at, place_behind};
+    ghost use Rattle.reader.specs.Cursors.{args_behind};
+    ghost use Rattle.reader.specs.Turns.{ArgumentAt, PartAt, ToldByte};
+
+    pub(crate) fn byte(self) -> Option<u8>
+        ensures { ToldByte self.entry.text.now self.entry.at result }
+    {
+        self.text.get(self.at).copied()
+    }
+
+    // The argument from there on.
+    pub(crate) fn argument(self) -> Argument<'a>
+        ensures piece { result.bytes.now ≡ piece_at 31 self.entry.text.now self.entry.at }
+        ensures behind { result.behind ≡ place_behind 31 self.entry.text.now self.entry.at }
+        ensures there { ArgumentAt self.entry.text.now result.bytes.now result.end result.behind (args_behind self.entry.text.now self.entry.at) }
+    {
+        let (bytes, behind) = piece_at(self.text, SEPARATOR, self.at);
+        Argument {
+            bytes,
+            end: self.at + bytes.len(),
+            behind,
+        }
+    }
+
+    // So many bytes from there on, or all that there are. Reading goes on at their end.
+    pub(crate) fn part(self, most: usize) -> Argument<'a>
+        ensures bytes { result.bytes.now ≡ take most (drop self.entry.at self.entry.text.now) }
+        ensures end { drop result.end self.entry.text.now ≡ drop (self.entry.at + most) self.entry.text.now }
+        ensures behind { result.behind ≡ result.end }
+        ensures later { self.entry.at ≤ result.end }
+        ensures there { PartAt self.entry.text.now result.bytes.now result.end result.behind }
+    {
+        let rest = &self.text[self.at..];
+        let bytes = &rest[..most.min(rest.len())];
+        let end = self.at + bytes.len();
+        Argument {
+            bytes,
+            end,
+            behind: end,
+        }
+    }
+}
