@@ -21,7 +21,7 @@ pub(crate) struct Argument<'a> {
 }
 
 impl<'a> Place<'a> {
-    ghost use Rattle.text.specs.Arguments.{piece_at, place_behind};
+    ghost use Rattle.text.specs.Arguments.{separator, piece_at, place_behind};
     ghost use Rattle.reader.specs.Cursors.{args_behind};
     ghost use Rattle.reader.specs.Turns.{ArgumentAt, PartAt, ToldByte};
 
@@ -33,8 +33,8 @@ impl<'a> Place<'a> {
 
     // The argument from there on.
     pub(crate) fn argument(self) -> Argument<'a>
-        ensures piece { result.bytes.now ≡ piece_at 31 self.entry.text.now self.entry.at }
-        ensures behind { result.behind ≡ place_behind 31 self.entry.text.now self.entry.at }
+        ensures piece { result.bytes.now ≡ piece_at separator self.entry.text.now self.entry.at }
+        ensures behind { result.behind ≡ place_behind separator self.entry.text.now self.entry.at }
         ensures there { ArgumentAt self.entry.text.now result.bytes.now result.end result.behind (args_behind self.entry.text.now self.entry.at) }
     {
         let (bytes, behind) = piece_at(self.text, SEPARATOR, self.at);

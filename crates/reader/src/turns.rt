@@ -1,7 +1,8 @@
 // One turn of a reader: a flag, something passed over, or the end.
 ghost use Rattle.std.specs.Prelude.{◌≡◌, ℕ, ◌+◌, ◌-◌, ◌<◌, ◌≤◌, List, length, drop};
 ghost use Rattle.flags.specs.Meaning.{Bytes};
-ghost use Rattle.text.specs.Arguments.{piece_at, pieces, place_behind};
+ghost use Rattle.text.specs.Arguments.{separator, piece_at, pieces, place_behind};
+ghost use Rattle.text.specs.Shapes.{dash};
 ghost use Rattle.reading.specs.Left.{behind as behind_of, first_from, first_taken, first_long, first_alone, first_equipped, first_rest, first_letter, first};
 ghost use Rattle.reading.specs.Reading.{free};
 ghost use Rattle.reader.specs.Cursors.{args_behind, cursor_between, left_in, left_of};
@@ -25,7 +26,7 @@ pub(crate) enum Turn<'a> {
 
 // An option takes an argument, or what is left of its list.
 fn taken<'a>(code: Code, argument: Argument<'a>) -> Turn<'a>
-    ensures { (o : Options) (text : Bytes) (w : ℕ) → PartAt text argument.entry.bytes.now argument.entry.end argument.entry.behind → weight text (cursor_between argument.entry.behind) < w → Tells o text w (first_made_at o code text argument.entry.bytes.now argument.entry.end argument.entry.behind) result }
+    ensures { let a = argument.entry in (o : Options) (text : Bytes) (w : ℕ) → PartAt text a.bytes.now a.end a.behind → weight text (cursor_between a.behind) < w → Tells o text w (first_made_at o code text a.bytes.now a.end a.behind) result }
 {
     match make(code, argument.bytes) {
         Some((flag, place)) if place < argument.bytes.len() => {
@@ -43,14 +44,14 @@ fn taken<'a>(code: Code, argument: Argument<'a>) -> Turn<'a>
 
 // An option takes the whole argument at a place.
 fn takes_next<'a>(code: Code, here: Place<'a>) -> Turn<'a>
-    ensures { (o : Options) (w : ℕ) → weight here.entry.text.now (cursor_between here.entry.at) < w → Tells o here.entry.text.now w (first_taken code (piece_at 31 here.entry.text.now here.entry.at) (args_behind here.entry.text.now here.entry.at) (first_from o free (args_behind here.entry.text.now here.entry.at))) result }
+    ensures { let text = here.entry.text.now in let at = here.entry.at in (o : Options) (w : ℕ) → weight text (cursor_between at) < w → Tells o text w (first_taken code (piece_at separator text at) (args_behind text at) (first_from o free (args_behind text at))) result }
 {
     taken(code, here.argument())
 }
 
 // `--name`, with what stands behind it.
 fn alone<'a, T: Table>(table: &T, name: &'a [u8], behind: Place<'a>) -> Turn<'a>
-    ensures { (args : List Bytes) (w : ℕ) → pieces 31 (drop behind.entry.at behind.entry.text.now) ≡ behind_of args → weight behind.entry.text.now (cursor_between behind.entry.at) < w → Tells (T.Table.means table.now) behind.entry.text.now w (first_alone args (λ t. first_from (T.Table.means table.now) t args) ((T.Table.means table.now).long name.now)) result }
+    ensures { let o = T.Table.means table.now in let text = behind.entry.text.now in let at = behind.entry.at in (args : List Bytes) (w : ℕ) → pieces separator (drop at text) ≡ behind_of args → weight text (cursor_between at) < w → Tells o text w (first_alone args (λ t. first_from o t args) (o.long name.now)) result }
 {
     let go_on = Cursor::between(behind.at);
     match table.lookup_long(name) {
@@ -64,7 +65,7 @@ fn alone<'a, T: Table>(table: &T, name: &'a [u8], behind: Place<'a>) -> Turn<'a>
 
 // `--name=argument`.
 fn equipped<'a, T: Table>(table: &T, name: &'a [u8], argument: Argument<'a>) -> Turn<'a>
-    ensures { (text : Bytes) (args : List Bytes) (w : ℕ) → ArgumentAt text argument.entry.bytes.now argument.entry.end argument.entry.behind args → weight text (cursor_between argument.entry.behind) < w → Tells (T.Table.means table.now) text w (first_equipped args (λ t. first_from (T.Table.means table.now) t args) ((T.Table.means table.now).long name.now) argument.entry.bytes.now) result }
+    ensures { let o = T.Table.means table.now in let a = argument.entry in (text : Bytes) (args : List Bytes) (w : ℕ) → ArgumentAt text a.bytes.now a.end a.behind args → weight text (cursor_between a.behind) < w → Tells o text w (first_equipped args (λ t. first_from o t args) (o.long name.now) a.bytes.now) result }
 {
     let go_on = Cursor::between(argument.behind);
     match table.lookup_long(name) {
@@ -79,7 +80,7 @@ fn equipped<'a, T: Table>(table: &T, name: &'a [u8], argument: Argument<'a>) -> 
 // A long option, behind its dashes.
 fn long_turn<'a, T: Table>(table: &T, text: &'a [u8], body: Argument<'a>) -> Turn<'a>
     requires { body.behind ≤ length text.now }
-    ensures { (args : List Bytes) (w : ℕ) → ArgumentAt text.now body.entry.bytes.now body.entry.end body.entry.behind args → weight text.now (cursor_between body.entry.behind) < w → Tells (T.Table.means table.now) text.now w (first_long args (λ t. first_from (T.Table.means table.now) t args) (T.Table.means table.now) body.entry.bytes.now) result }
+    ensures { let o = T.Table.means table.now in let a = body.entry in (args : List Bytes) (w : ℕ) → ArgumentAt text.now a.bytes.now a.end a.behind args → weight text.now (cursor_between a.behind) < w → Tells o text.now w (first_long args (λ t. first_from o t args) o a.bytes.now) result }
 {
     match split_once(body.bytes, b'=') {
         Some((name, bytes)) => {
@@ -102,7 +103,7 @@ fn long_turn<'a, T: Table>(table: &T, text: &'a [u8], body: Argument<'a>) -> Tur
 
 // An option in a cluster takes the rest of its argument at a place, or else the next argument.
 fn takes_rest<'a>(code: Code, here: Place<'a>) -> Turn<'a>
-    ensures { (o : Options) (w : ℕ) → weight here.entry.text.now (cursor_between here.entry.at) < w → Tells o here.entry.text.now w (first_rest (args_behind here.entry.text.now here.entry.at) (λ t. first_from o t (args_behind here.entry.text.now here.entry.at)) code (piece_at 31 here.entry.text.now here.entry.at)) result }
+    ensures { let text = here.entry.text.now in let at = here.entry.at in (o : Options) (w : ℕ) → weight text (cursor_between at) < w → Tells o text w (first_rest (args_behind text at) (λ t. first_from o t (args_behind text at)) code (piece_at separator text at)) result }
 {
     match here.byte() {
         Some(SEPARATOR) => {
@@ -119,7 +120,7 @@ fn takes_rest<'a>(code: Code, here: Place<'a>) -> Turn<'a>
 
 // A letter of a cluster, which stands before a place.
 fn letter_turn<'a, T: Table>(table: &T, letter: u8, here: Place<'a>) -> Turn<'a>
-    ensures { (w : ℕ) → weight here.entry.text.now (cursor_between here.entry.at) < w → Tells (T.Table.means table.now) here.entry.text.now w (first_letter (args_behind here.entry.text.now here.entry.at) (λ t. first_from (T.Table.means table.now) t (args_behind here.entry.text.now here.entry.at)) ((T.Table.means table.now).short letter) (piece_at 31 here.entry.text.now here.entry.at)) result }
+    ensures { let o = T.Table.means table.now in let text = here.entry.text.now in let at = here.entry.at in (w : ℕ) → weight text (cursor_between at) < w → Tells o text w (first_letter (args_behind text at) (λ t. first_from o t (args_behind text at)) (o.short letter) (piece_at separator text at)) result }
 {
     match table.lookup_short(letter) {
         Some(code) => match code.bare_flag() {
@@ -138,22 +139,22 @@ fn letter_turn<'a, T: Table>(table: &T, letter: u8, here: Place<'a>) -> Turn<'a>
 
 // The rest of the argument at a place is passed over.
 fn skipped<'a>(here: Place<'a>) -> Turn<'a>
-    ensures { (o : Options) (w : ℕ) → weight here.entry.text.now (cursor_between (place_behind 31 here.entry.text.now here.entry.at)) < w → Tells o here.entry.text.now w (first_from o free (args_behind here.entry.text.now here.entry.at)) result }
+    ensures { let text = here.entry.text.now in let at = here.entry.at in (o : Options) (w : ℕ) → weight text (cursor_between (place_behind separator text at)) < w → Tells o text w (first_from o free (args_behind text at)) result }
 {
     Turn::Passes(Cursor::between(here.argument().behind))
 }
 
 // What is left of a list.
 fn list_turn<'a>(code: Code, left: usize, here: Place<'a>) -> Turn<'a>
-    ensures { (o : Options) (w : ℕ) → weight_in (State.List code left) (length here.entry.text.now - here.entry.at) ≤ w → Tells o here.entry.text.now w (first o (left_in (State.List code left) here.entry.text.now here.entry.at)) result }
+    ensures { let text = here.entry.text.now in let at = here.entry.at in (o : Options) (w : ℕ) → weight_in (State.List code left) (length text - at) ≤ w → Tells o text w (first o (left_in (State.List code left) text at)) result }
 {
     taken(code, here.part(left))
 }
 
 // An argument that begins with a dash.
 fn option_turn<'a, T: Table>(table: &T, here: Place<'a>) -> Turn<'a>
-    requires { ByteAt here.text.now here.at 45 }
-    ensures { Tells (T.Table.means table.now) here.entry.text.now (weight here.entry.text.now (cursor_between here.entry.at)) (first (T.Table.means table.now) (left_of (cursor_between here.entry.at) here.entry.text.now)) result }
+    requires { ByteAt here.text.now here.at dash }
+    ensures { let o = T.Table.means table.now in let text = here.entry.text.now in let at = here.entry.at in Tells o text (weight text (cursor_between at)) (first o (left_of (cursor_between at) text)) result }
 {
     let argument = here.argument();
     match shape_of(argument.bytes) {
@@ -178,7 +179,7 @@ fn option_turn<'a, T: Table>(table: &T, here: Place<'a>) -> Turn<'a>
 
 // A turn at a place, by what is to be read and the byte there.
 fn turn_at<'a, T: Table>(table: &T, state: State, here: Place<'a>) -> Turn<'a>
-    ensures { Tells (T.Table.means table.now) here.entry.text.now (weight_in state (length here.entry.text.now - here.entry.at)) (first (T.Table.means table.now) (left_in state here.entry.text.now here.entry.at)) result }
+    ensures { let o = T.Table.means table.now in let text = here.entry.text.now in let at = here.entry.at in Tells o text (weight_in state (length text - at)) (first o (left_in state text at)) result }
 {
     match (state, here.byte()) {
         (State::Between, Some(b'-')) => option_turn(table, here),
@@ -199,7 +200,7 @@ fn turn_at<'a, T: Table>(table: &T, state: State, here: Place<'a>) -> Turn<'a>
 
 // A turn of a cursor. A place past the text is its end.
 pub(crate) fn one_turn<'a, T: Table>(table: &T, cursor: Cursor, text: &'a [u8]) -> Turn<'a>
-    ensures { Tells (T.Table.means table.now) text.now (weight text.now cursor) (first (T.Table.means table.now) (left_of cursor text.now)) result }
+    ensures { let o = T.Table.means table.now in Tells o text.now (weight text.now cursor) (first o (left_of cursor text.now)) result }
 {
     let here = Place {
         text,
