@@ -37,31 +37,31 @@ module _ (o : Options) (text : Bytes) (at : ℕ) where
       ∙ ap (λ l. first_cluster l (λ t. first_from o t l) o (piece_at 31 text (at + 1))) (args_on text at 45 here not_separator)
     where
       at_second : (letters : Bytes) (y : ℕ) (ys : Bytes) (t : Bool) → short letters ≡ cond t (behind_two ys) (short (y ∷ ys)) → letters ≡ y ∷ ys
-      at_second letters y [] true e = absurd (let z : ◌≡◌ {A = ℕ} 0 1 = cc in omega arith)
-      at_second letters y (z ∷ zs) true e = absurd (let z : ◌≡◌ {A = ℕ} 0 1 = cc in omega arith)
+      at_second letters y [] true e = cc
+      at_second letters y (z ∷ zs) true e = cc
       at_second letters y ys false e = cc
 
       letters_are : (letters bs : Bytes) → short letters ≡ form_of (45 ∷ bs) → letters ≡ bs
-      letters_are letters [] e = absurd (let z : ◌≡◌ {A = ℕ} 0 1 = cc in omega arith)
+      letters_are letters [] e = cc
       letters_are letters (y ∷ ys) e = at_second letters y ys (eqb y 45) e
 
 -- the bytes behind two dashes
 two_dashes : (x y : ℕ) (ys body : Bytes) (s t : Bool) → eqb x 45 ≡ s → eqb y 45 ≡ t → long body ≡ cond s (cond t (behind_two ys) (short (y ∷ ys))) plain → x ∷ y ∷ ys ≡ 45 ∷ 45 ∷ body
-two_dashes x y [] body true true f g e = absurd (let z : ◌≡◌ {A = ℕ} 0 1 = cc in omega arith)
+two_dashes x y [] body true true f g e = cc
 two_dashes x y (z ∷ zs) body true true f g e =
     let first : x ≡ 45 = eqb-true x 45 f in
     let second : y ≡ 45 = eqb-true y 45 g in
     let rest : body ≡ z ∷ zs = cc in
     ap (λ n. n ∷ y ∷ z ∷ zs) first ∙ ap (λ n. 45 ∷ n ∷ z ∷ zs) second ∙ ap (λ l. 45 ∷ 45 ∷ l) (sym rest)
-two_dashes x y ys body true false f g e = absurd (let z : ◌≡◌ {A = ℕ} 0 1 = cc in omega arith)
-two_dashes x y ys body false t f g e = absurd (let z : ◌≡◌ {A = ℕ} 0 1 = cc in omega arith)
+two_dashes x y ys body true false f g e = cc
+two_dashes x y ys body false t f g e = cc
 
 one_byte : (x : ℕ) (body : Bytes) (s : Bool) → long body ≡ cond s single plain → ⊥
-one_byte x body true e = absurd (let z : ◌≡◌ {A = ℕ} 0 1 = cc in omega arith)
-one_byte x body false e = absurd (let z : ◌≡◌ {A = ℕ} 0 1 = cc in omega arith)
+one_byte x body true e = cc
+one_byte x body false e = cc
 
 pub long_is : (a body : Bytes) → long body ≡ form_of a → a ≡ 45 ∷ 45 ∷ body
-long_is [] body e = absurd (let z : ◌≡◌ {A = ℕ} 0 1 = cc in omega arith)
+long_is [] body e = cc
 long_is (x ∷ []) body e = absurd (one_byte x body (eqb x 45) e)
 long_is (x ∷ y ∷ ys) body e = two_dashes x y ys body (eqb x 45) (eqb y 45) refl refl e
 

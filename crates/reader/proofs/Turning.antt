@@ -19,24 +19,17 @@ tells_by o text w r f g e t = subst (λ h. Tells o text w h r) (sym e) t
 
 module _ (args : List Bytes) (later : State → First) (c : Code) (takes : None ≡ (about c).flag) where
   pub equipped_takes : (k : Option Code) (a : Bytes) → Some c ≡ k → first_equipped args later k a ≡ first_taken c a args (later free)
-  equipped_takes k a e =
-      ap (λ x. first_equipped args later x a) (sym e)
-      ∙ ap (λ f. elim f as (λ _. First) [ Some flag ↦ later free | None ↦ first_taken c a args (later free) ]) (sym takes)
+  equipped_takes k a e = rw (← e, ← takes, first_equipped)
 
   pub alone_takes : (k : Option Code) → Some c ≡ k → first_alone args later k ≡ later (long_owed c)
-  alone_takes k e =
-      ap (first_alone args later) (sym e)
-      ∙ ap (λ f. elim f as (λ _. First) [ Some flag ↦ Some (flag, between (behind args)) | None ↦ later (long_owed c) ]) (sym takes)
+  alone_takes k e = rw (← e, ← takes, first_alone)
 
 module _ (args : List Bytes) (later : State → First) (o : Options) (body : Bytes) where
-  by_cut : (cut : Option Halves) → cut ≡ cut_first 61 body → first_long args later o body ≡ elim cut [ Some h ↦ first_equipped args later (o.long h.0) h.1 | None ↦ first_alone args later (o.long body) ]
-  by_cut cut e = ap (λ x. elim x as (λ _. First) [ Some h ↦ first_equipped args later (o.long h.0) h.1 | None ↦ first_alone args later (o.long body) ]) (sym e)
-
   pub long_equipped : (h : Halves) → Some h ≡ cut_first 61 body → first_long args later o body ≡ first_equipped args later (o.long h.0) h.1
-  long_equipped h e = by_cut (Some h) e
+  long_equipped h e = rw (← e, first_long)
 
   pub long_alone : None ≡ cut_first 61 body → first_long args later o body ≡ first_alone args later (o.long body)
-  long_alone e = by_cut None e
+  long_alone e = rw (← e, first_long)
 
 -- what a short option takes: the rest of its argument, or the next one
 module _ (o : Options) (text : Bytes) (at : ℕ) (c : Code) where
@@ -46,28 +39,15 @@ module _ (o : Options) (text : Bytes) (at : ℕ) (c : Code) where
   abbrev rest_first : Bytes → List Bytes → First
   rest_first p l = first_rest l (λ t. first_from o t l) c p
 
-  pub rest_past : drop at text ≡ [] → rest_first (piece_at 31 text at) args ≡ None
-  rest_past e = ap (λ p. rest_first p args) (piece_past text at e) ∙ ap (rest_first []) (args_past text at e)
-
   pub rest_next : drop at text ≡ 31 ∷ drop (at + 1) text → rest_first (piece_at 31 text at) args ≡ first_taken c (piece_at 31 text (at + 1)) (args_behind text (at + 1)) (first_from o free (args_behind text (at + 1)))
   rest_next e = ap (λ p. rest_first p args) (no_piece text at 31 e refl) ∙ ap (rest_first []) (args_here text at 31 e refl ∙ pieces_here text (at + 1))
-
-  pub rest_taken : (x : ℕ) → drop at text ≡ x ∷ drop (at + 1) text → (x ≡ 31 → ⊥) → rest_first (piece_at 31 text at) args ≡ first_taken c (piece_at 31 text at) args (first_from o free args)
-  rest_taken x e other =
-      ap (λ p. rest_first p args) (piece_on text at x e other)
-      ∙ ap (λ p. first_taken c p args (first_from o free args)) (sym (piece_on text at x e other))
 
 pub skipped_first : (o : Options) (text : Bytes) (at place : ℕ) → place ≡ place_behind 31 text at → first_from o free (args_behind text at) ≡ first o (between (pieces 31 (drop place text)))
 skipped_first o text at place e = sym (first_behind o (args_behind text at)) ∙ ap (λ l. first o (between l)) (sym (pieces_later text at) ∙ ap (λ n. pieces 31 (drop n text)) (sym e))
 
 module _ (args : List Bytes) (later : State → First) (bs : Bytes) where
   pub letter_takes : (c : Code) (k : Option Code) → None ≡ (about c).flag → Some c ≡ k → first_letter args later k bs ≡ first_rest args later c bs
-  letter_takes c k takes e =
-      ap (λ x. first_letter args later x bs) (sym e)
-      ∙ ap (λ f. elim f as (λ _. First) [ Some flag ↦ Some (flag, in_cluster bs args) | None ↦ first_rest args later c bs ]) (sym takes)
-
-  pub letter_unknown : (k : Option Code) → None ≡ k → first_letter args later k bs ≡ later free
-  letter_unknown k e = ap (λ x. first_letter args later x bs) (sym e)
+  letter_takes c k takes e = rw (← e, ← takes, first_letter)
 
 -- in a state that is known
 pub in_state : (o : Options) (text : Bytes) (r : Turn) (at : ℕ) (t s : At) → t ≡ s → Tells o text (weight_in s (length text - at)) (first o (left_in s text at)) r → Tells o text (weight_in t (length text - at)) (first o (left_in t text at)) r

@@ -5,7 +5,7 @@ use Rattle.flags.specs.declared.kinds.Code.{Code}
 use Rattle.text.specs.Arguments.{separator, pieces}
 use Rattle.tables.specs.Tables.{Options}
 use Rattle.reading.specs.Left.{Left, First, between, in_list, behind, first_made_of, first}
-use Rattle.reader.specs.Cursors.{left_of}
+use Rattle.reader.specs.Cursors.{cursor_between, left_of}
 use Rattle.reader.specs.declared.cursor.Cursor.{Cursor}
 use Rattle.reader.specs.declared.cursor.State.{State}
 use Rattle.reader.specs.declared.cursor.State.TheVariants.{Between, Cluster, List as InList, Ended}
@@ -27,6 +27,10 @@ abbrev pub Tells : Options → Bytes → ℕ → First → Turn → Type 0
 Tells o text w f (Gives flag c) = (f ≡ Some (meaning flag, left_of c text)) × (c.at ≤ length text)
 Tells o text w f (Passes c) = (f ≡ first o (left_of c text)) × (weight text c < w)
 Tells o text w f Ends = f ≡ None
+
+-- The same at an argument that begins at a place, for each cursor that has more left than is left there.
+abbrev pub TellsFrom : Options → Bytes → ℕ → First → Turn → Type 0
+TellsFrom o text at f turn = (w : ℕ) → weight text (cursor_between at) < w → Tells o text w f turn
 
 -- the last bytes of an argument, or of a list, in a text: they end at a place, and behind is another
 pub record PartAt (text bytes : Bytes) (end place : ℕ) : Type 0 where

@@ -6,7 +6,7 @@ ghost use Rattle.text.specs.Shapes.{dash};
 ghost use Rattle.reading.specs.Left.{behind as behind_of, first_from, first_taken, first_long, first_alone, first_equipped, first_rest, first_letter, first};
 ghost use Rattle.reading.specs.Reading.{free};
 ghost use Rattle.reader.specs.Cursors.{args_behind, cursor_between, left_in, left_of};
-ghost use Rattle.reader.specs.Turns.{Tells, weight, weight_in, PartAt, ArgumentAt, ByteAt, first_made_at};
+ghost use Rattle.reader.specs.Turns.{Tells, TellsFrom, weight, weight_in, PartAt, ArgumentAt, ByteAt, first_made_at};
 ghost use Rattle.tables.specs.Tables.{Options};
 
 use super::cursor::{Cursor, State};
@@ -26,7 +26,7 @@ pub(crate) enum Turn<'a> {
 
 // An option takes an argument, or what is left of its list.
 fn taken<'a>(code: Code, argument: Argument<'a>) -> Turn<'a>
-    ensures { let a = argument.entry in (o : Options) (text : Bytes) (w : ℕ) → PartAt text a.bytes.now a.end a.behind → weight text (cursor_between a.behind) < w → Tells o text w (first_made_at o code text a.bytes.now a.end a.behind) result }
+    ensures { let a = argument.entry in (o : Options) (text : Bytes) → PartAt text a.bytes.now a.end a.behind → TellsFrom o text a.behind (first_made_at o code text a.bytes.now a.end a.behind) result }
 {
     match make(code, argument.bytes) {
         Some((flag, place)) if place < argument.bytes.len() => {
@@ -44,14 +44,14 @@ fn taken<'a>(code: Code, argument: Argument<'a>) -> Turn<'a>
 
 // An option takes the whole argument at a place.
 fn takes_next<'a>(code: Code, here: Place<'a>) -> Turn<'a>
-    ensures { let text = here.entry.text.now in let at = here.entry.at in (o : Options) (w : ℕ) → weight text (cursor_between at) < w → Tells o text w (first_taken code (piece_at separator text at) (args_behind text at) (first_from o free (args_behind text at))) result }
+    ensures { let text = here.entry.text.now in let at = here.entry.at in (o : Options) → TellsFrom o text at (first_taken code (piece_at separator text at) (args_behind text at) (first_from o free (args_behind text at))) result }
 {
     taken(code, here.argument())
 }
 
 // `--name`, with what stands behind it.
 fn alone<'a, T: Table>(table: &T, name: &'a [u8], behind: Place<'a>) -> Turn<'a>
-    ensures { let o = T.Table.means table.now in let text = behind.entry.text.now in let at = behind.entry.at in (args : List Bytes) (w : ℕ) → pieces separator (drop at text) ≡ behind_of args → weight text (cursor_between at) < w → Tells o text w (first_alone args (λ t. first_from o t args) (o.long name.now)) result }
+    ensures { let o = T.Table.means table.now in let text = behind.entry.text.now in let at = behind.entry.at in (args : List Bytes) → pieces separator (drop at text) ≡ behind_of args → TellsFrom o text at (first_alone args (λ t. first_from o t args) (o.long name.now)) result }
 {
     let go_on = Cursor::between(behind.at);
     match table.lookup_long(name) {
@@ -65,7 +65,7 @@ fn alone<'a, T: Table>(table: &T, name: &'a [u8], behind: Place<'a>) -> Turn<'a>
 
 // `--name=argument`.
 fn equipped<'a, T: Table>(table: &T, name: &'a [u8], argument: Argument<'a>) -> Turn<'a>
-    ensures { let o = T.Table.means table.now in let a = argument.entry in (text : Bytes) (args : List Bytes) (w : ℕ) → ArgumentAt text a.bytes.now a.end a.behind args → weight text (cursor_between a.behind) < w → Tells o text w (first_equipped args (λ t. first_from o t args) (o.long name.now) a.bytes.now) result }
+    ensures { let o = T.Table.means table.now in let a = argument.entry in (text : Bytes) (args : List Bytes) → ArgumentAt text a.bytes.now a.end a.behind args → TellsFrom o text a.behind (first_equipped args (λ t. first_from o t args) (o.long name.now) a.bytes.now) result }
 {
     let go_on = Cursor::between(argument.behind);
     match table.lookup_long(name) {
@@ -80,7 +80,7 @@ fn equipped<'a, T: Table>(table: &T, name: &'a [u8], argument: Argument<'a>) -> 
 // A long option, behind its dashes.
 fn long_turn<'a, T: Table>(table: &T, text: &'a [u8], body: Argument<'a>) -> Turn<'a>
     requires { body.behind ≤ length text.now }
-    ensures { let o = T.Table.means table.now in let a = body.entry in (args : List Bytes) (w : ℕ) → ArgumentAt text.now a.bytes.now a.end a.behind args → weight text.now (cursor_between a.behind) < w → Tells o text.now w (first_long args (λ t. first_from o t args) o a.bytes.now) result }
+    ensures { let o = T.Table.means table.now in let a = body.entry in (args : List Bytes) → ArgumentAt text.now a.bytes.now a.end a.behind args → TellsFrom o text.now a.behind (first_long args (λ t. first_from o t args) o a.bytes.now) result }
 {
     match split_once(body.bytes, b'=') {
         Some((name, bytes)) => {
@@ -103,7 +103,7 @@ fn long_turn<'a, T: Table>(table: &T, text: &'a [u8], body: Argument<'a>) -> Tur
 
 // An option in a cluster takes the rest of its argument at a place, or else the next argument.
 fn takes_rest<'a>(code: Code, here: Place<'a>) -> Turn<'a>
-    ensures { let text = here.entry.text.now in let at = here.entry.at in (o : Options) (w : ℕ) → weight text (cursor_between at) < w → Tells o text w (first_rest (args_behind text at) (λ t. first_from o t (args_behind text at)) code (piece_at separator text at)) result }
+    ensures { let text = here.entry.text.now in let at = here.entry.at in (o : Options) → TellsFrom o text at (first_rest (args_behind text at) (λ t. first_from o t (args_behind text at)) code (piece_at separator text at)) result }
 {
     match here.byte() {
         Some(SEPARATOR) => {
@@ -120,7 +120,7 @@ fn takes_rest<'a>(code: Code, here: Place<'a>) -> Turn<'a>
 
 // A letter of a cluster, which stands before a place.
 fn letter_turn<'a, T: Table>(table: &T, letter: u8, here: Place<'a>) -> Turn<'a>
-    ensures { let o = T.Table.means table.now in let text = here.entry.text.now in let at = here.entry.at in (w : ℕ) → weight text (cursor_between at) < w → Tells o text w (first_letter (args_behind text at) (λ t. first_from o t (args_behind text at)) (o.short letter) (piece_at separator text at)) result }
+    ensures { let o = T.Table.means table.now in let text = here.entry.text.now in let at = here.entry.at in TellsFrom o text at (first_letter (args_behind text at) (λ t. first_from o t (args_behind text at)) (o.short letter) (piece_at separator text at)) result }
 {
     match table.lookup_short(letter) {
         Some(code) => match code.bare_flag() {
@@ -139,7 +139,7 @@ fn letter_turn<'a, T: Table>(table: &T, letter: u8, here: Place<'a>) -> Turn<'a>
 
 // The rest of the argument at a place is passed over.
 fn skipped<'a>(here: Place<'a>) -> Turn<'a>
-    ensures { let text = here.entry.text.now in let at = here.entry.at in (o : Options) (w : ℕ) → weight text (cursor_between (place_behind separator text at)) < w → Tells o text w (first_from o free (args_behind text at)) result }
+    ensures { let text = here.entry.text.now in let at = here.entry.at in (o : Options) → TellsFrom o text (place_behind separator text at) (first_from o free (args_behind text at)) result }
 {
     Turn::Passes(Cursor::between(here.argument().behind))
 }

@@ -14,9 +14,9 @@ pub returns-in-Some : goal.returns-in-Some
 returns-in-Some g c =
     let o = g.T.Table.means c.args.table.now in
     let h : Halves = (c.in-Some.name.now, c.in-Some.bytes.now) in
-    λ args w is less. tells_by o _ w _ _ _ (long_equipped args (λ t. first_from o t args) o c.args.body.bytes.now h (search rules)) (c.equipped.ensures _ args w (argument_cut _ c.args.body.bytes.now h 61 _ _ args (search rules) c.args.body.long is) less)
+    λ args is w less. tells_by o _ w _ _ _ (long_equipped args (λ t. first_from o t args) o c.args.body.bytes.now h (search rules)) (c.equipped.ensures _ args (argument_cut _ c.args.body.bytes.now h 61 _ _ args (search rules) c.args.body.long is) w less)
 
 pub returns-in-None : goal.returns-in-None
 returns-in-None g c =
     let o = g.T.Table.means c.args.table.now in
-    λ args w is less. tells_by o _ w _ _ _ (long_alone args (λ t. first_from o t args) o c.args.body.bytes.now (search rules)) (c.alone.ensures args w is.later less)
+    λ args is w less. tells_by o _ w _ _ _ (long_alone args (λ t. first_from o t args) o c.args.body.bytes.now (search rules)) (c.alone.ensures args is.later w less)

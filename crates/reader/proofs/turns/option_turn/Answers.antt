@@ -17,7 +17,7 @@ returns-in-Long g c =
     let later = place_later text at (search rules) in
     let args = args_behind text at in
     let of-body = argument_end text a (45 ∷ 45 ∷ []) body _ _ args (long_is a body (search rules)) c.argument-argument.result.long c.argument-argument.ensures.there in
-    tells_by o text _ _ _ _ (between_first o text at a (long body) (search rules) (search rules)) (c.long_turn.ensures args _ of-body (omega (arith, later, of-body.part.place_within, c.argument-argument.ensures.behind)))
+    tells_by o text _ _ _ _ (between_first o text at a (long body) (search rules) (search rules)) (c.long_turn.ensures args of-body _ (omega (arith, later, of-body.part.place_within, c.argument-argument.ensures.behind)))
 
 pub returns-in-Short : goal.returns-in-Short
 returns-in-Short g c =
