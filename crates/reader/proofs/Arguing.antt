@@ -10,36 +10,36 @@ use Rattle.tables.specs.Tables.{Options}
 use Rattle.reading.specs.Reading.{free, long_owed}
 use Rattle.reading.specs.Left.{behind, first_from, first_taken}
 use Rattle.reader.specs.Cursors.{args_behind}
-use Rattle.reader.specs.Turns.{PartAt, ArgumentAt}
+use Rattle.reader.specs.Turns.{ArgumentAt}
+use Rattle.reader.specs.declared.place.Argument.{Argument}
 use Rattle.reader.proofs.Leaving.{pieces_here, pieces_later, pieces-at_end}
 
-part_end : (text xs ys : Bytes) (end place : ℕ) → length (xs ++ ys) ≤ end → PartAt text (xs ++ ys) end place → PartAt text ys end place
-part_end text xs ys end place long is =
+end_there : (text xs ys : Bytes) (end : ℕ) → length (xs ++ ys) ≤ end → xs ++ ys ≡ take (length (xs ++ ys)) (drop (end - length (xs ++ ys)) text) → ys ≡ take (length ys) (drop (end - length ys) text)
+end_there text xs ys end long there =
     let all : length (xs ++ ys) ≡ length xs + length ys = length-append xs ys in
     let from : end - length (xs ++ ys) + length xs ≡ end - length ys = omega arith in
-    record {
-      there =
-          sym (drop_at xs ys _ refl)
-          ∙ ap (drop (length xs)) is.there
-          ∙ ap (λ n. drop (length xs) (take n (drop (end - length (xs ++ ys)) text))) all
-          ∙ drop-take (length xs) (length ys) (drop (end - length (xs ++ ys)) text)
-          ∙ ap (take (length ys)) (drop-drop (length xs) (end - length (xs ++ ys)) text ∙ ap (λ n. drop n text) from);
-      within = is.within;
-      place_within = is.place_within;
-    }
+    sym (drop_at xs ys _ refl)
+    ∙ ap (drop (length xs)) there
+    ∙ ap (λ n. drop (length xs) (take n (drop (end - length (xs ++ ys)) text))) all
+    ∙ drop-take (length xs) (length ys) (drop (end - length (xs ++ ys)) text)
+    ∙ ap (take (length ys)) (drop-drop (length xs) (end - length (xs ++ ys)) text ∙ ap (λ n. drop n text) from)
 
--- the end of an argument is an argument there
-pub argument_end : (text a xs ys : Bytes) (end place : ℕ) (args : List Bytes) → a ≡ xs ++ ys → length a ≤ end → ArgumentAt text a end place args → ArgumentAt text ys end place args
-argument_end text a xs ys end place args e long is = record {
-  part = part_end text xs ys end place (subst (λ l. length l ≤ end) e long) (subst (λ l. PartAt text l end place) e is.part);
-  at_end = is.at_end;
-  later = is.later;
+-- the last bytes of an argument are an argument there
+pub argument_end : (text xs : Bytes) (a b : Argument) (args : List Bytes) → a.bytes.now ≡ xs ++ b.bytes.now → a.end ≡ b.end → a.behind ≡ b.behind → ArgumentAt text a args → ArgumentAt text b args
+argument_end text xs a b args e end behind' is = record {
+  part = record {
+    there = subst (λ n. b.bytes.now ≡ take (length b.bytes.now) (drop (n - length b.bytes.now) text)) end (end_there text xs b.bytes.now a.end (subst (λ l. length l ≤ a.end) e a.long) (subst (λ l. l ≡ take (length l) (drop (a.end - length l) text)) e is.part.there));
+    within = subst (λ n. n ≤ length text) end is.part.within;
+    behind_within = subst (λ n. n ≤ length text) behind' is.part.behind_within;
+  };
+  at_end = subst (λ n. pieces 31 (drop n text) ≡ [] ∷ args) end is.at_end;
+  later = subst (λ n. pieces 31 (drop n text) ≡ behind args) behind' is.later;
 }
 
 -- behind a byte of an argument
-pub argument_cut : (text a : Bytes) (h : Halves) (b end place : ℕ) (args : List Bytes) → Some h ≡ cut_first b a → length a ≤ end → ArgumentAt text a end place args → ArgumentAt text h.1 end place args
-argument_cut text a h b end place args cut long is =
-    argument_end text a (h.0 ++ b ∷ []) h.1 end place args (cut_first_whole b a h (sym cut) ∙ sym (append_assoc h.0 (b ∷ []) h.1)) long is
+pub argument_cut : (text : Bytes) (a b : Argument) (x : ℕ) (xs : Bytes) (args : List Bytes) → Some (xs, b.bytes.now) ≡ cut_first x a.bytes.now → a.end ≡ b.end → a.behind ≡ b.behind → ArgumentAt text a args → ArgumentAt text b args
+argument_cut text a b x xs args cut end behind' is =
+    argument_end text (xs ++ x ∷ []) a b args (cut_first_whole x a.bytes.now (xs, b.bytes.now) (sym cut) ∙ sym (append_assoc xs (x ∷ []) b.bytes.now)) end behind' is
 
 module _ (text : Bytes) (at : ℕ) where
   front_by : (o : Option Halves) → cut_first 31 (drop at text) ≡ o → (let p : Bytes = elim o [ Some h ↦ h.0 | None ↦ drop at text ] in (take (length p) (drop at text) ≡ p) × (length p ≤ length (drop at text)))
@@ -61,25 +61,22 @@ module _ (text : Bytes) (at : ℕ) where
     pub place_bounds : (at ≤ place_behind 31 text at) × (place_behind 31 text at ≤ length text)
     place_bounds = place_by (cut_first 31 (drop at text)) refl
 
-    argument_here : ArgumentAt text piece (at + length piece) (place_behind 31 text at) (args_behind text at)
-    argument_here =
+    -- the argument there
+    pub argument_there : (a : Argument) → a.bytes.now ≡ piece → a.end ≡ at + length a.bytes.now → a.behind ≡ place_behind 31 text at → ArgumentAt text a (args_behind text at)
+    argument_there a is ends behind' =
         let front = front_by (cut_first 31 (drop at text)) refl in
-        let here : at ≡ at + length piece - length piece = omega arith in
+        let long : length a.bytes.now ≡ length piece = ap length is in
+        let last : a.end ≡ at + length piece = omega arith in
+        let here : at ≡ a.end - length a.bytes.now = omega arith in
         record {
           part = record {
-            there = sym front.0 ∙ ap (λ n. take (length piece) (drop n text)) here;
+            there = is ∙ sym front.0 ∙ ap (λ n. take n (drop at text)) (sym long) ∙ ap (λ n. take (length a.bytes.now) (drop n text)) here;
             within = omega (arith, front.1, length-drop at text);
-            place_within = place_bounds.1;
+            behind_within = subst (λ n. n ≤ length text) (sym behind') place_bounds.1;
           };
-          at_end = pieces-at_end text at;
-          later = pieces_later text at;
+          at_end = ap (λ n. pieces 31 (drop n text)) last ∙ pieces-at_end text at;
+          later = ap (λ n. pieces 31 (drop n text)) behind' ∙ pieces_later text at;
         }
-
-    -- the argument there, by the names that a cut gives it
-    pub argument_there : (a : Bytes) (place : ℕ) → a ≡ piece_at 31 text at → place ≡ place_behind 31 text at → ArgumentAt text a (at + length a) place (args_behind text at)
-    argument_there a place is behind' =
-        subst (λ p. ArgumentAt text a (at + length a) p (args_behind text at)) (sym behind')
-        (subst (λ b. ArgumentAt text b (at + length b) (place_behind 31 text at) (args_behind text at)) (sym is) argument_here)
 
   -- behind a byte there is a later place
   pub place_later : at < length text → at < place_behind 31 text at

@@ -9,6 +9,7 @@ use Rattle.reader.specs.Cursors.{cursor_between, left_of}
 use Rattle.reader.specs.declared.cursor.Cursor.{Cursor}
 use Rattle.reader.specs.declared.cursor.State.{State}
 use Rattle.reader.specs.declared.cursor.State.TheVariants.{Between, Cluster, List as InList, Ended}
+use Rattle.reader.specs.declared.place.Argument.{Argument}
 use Rattle.reader.specs.declared.turns.Turn.{Turn}
 use Rattle.reader.specs.declared.turns.Turn.TheVariants.{Gives, Passes, Ends}
 
@@ -32,23 +33,23 @@ Tells o text w f Ends = f ≡ None
 abbrev pub TellsFrom : Options → Bytes → ℕ → First → Turn → Type 0
 TellsFrom o text at f turn = (w : ℕ) → weight text (cursor_between at) < w → Tells o text w f turn
 
--- the last bytes of an argument, or of a list, in a text: they end at a place, and behind is another
-pub record PartAt (text bytes : Bytes) (end place : ℕ) : Type 0 where
-  pub there : bytes ≡ take (length bytes) (drop (end - length bytes) text)
-  pub within : end ≤ length text
-  pub place_within : place ≤ length text
+-- the bytes end at their place in a text
+pub record PartAt (text : Bytes) (a : Argument) : Type 0 where
+  pub there : a.bytes.now ≡ take (length a.bytes.now) (drop (a.end - length a.bytes.now) text)
+  pub within : a.end ≤ length text
+  pub behind_within : a.behind ≤ length text
 
--- the same with the arguments behind: the place is behind the separator
-pub record ArgumentAt (text bytes : Bytes) (end place : ℕ) (args : List Bytes) : Type 0 where
-  pub part : PartAt text bytes end place
-  pub at_end : pieces separator (drop end text) ≡ [] ∷ args
-  pub later : pieces separator (drop place text) ≡ behind args
+-- An argument ends there too, and these are the arguments behind its separator.
+pub record ArgumentAt (text : Bytes) (a : Argument) (args : List Bytes) : Type 0 where
+  pub part : PartAt text a
+  pub at_end : pieces separator (drop a.end text) ≡ [] ∷ args
+  pub later : pieces separator (drop a.behind text) ≡ behind args
 
--- the first flag that an option makes of bytes that end at a place, or else of what stands at the place behind
-abbrev pub first_made_at : Options → Code → Bytes → Bytes → ℕ → ℕ → First
-first_made_at o c text bytes end place =
-    let on : Left = between (pieces separator (drop place text)) in
-    first_made_of c bytes on (λ rest. in_list c rest (pieces separator (drop end text))) (first o on)
+-- the first flag that an option makes of the bytes, or else of what stands behind them
+abbrev pub first_made_at : Options → Code → Bytes → Argument → First
+first_made_at o c text a =
+    let on : Left = between (pieces separator (drop a.behind text)) in
+    first_made_of c a.bytes.now on (λ rest. in_list c rest (pieces separator (drop a.end text))) (first o on)
 
 -- the byte at a place, if there is one
 pub record ByteAt (text : Bytes) (at : ℕ) (x : ℕ) : Type 0 where

@@ -35,7 +35,7 @@ impl<'a> Place<'a> {
     pub(crate) fn argument(self) -> Argument<'a>
         ensures piece { result.bytes.now ≡ piece_at separator self.entry.text.now self.entry.at }
         ensures behind { result.behind ≡ place_behind separator self.entry.text.now self.entry.at }
-        ensures there { ArgumentAt self.entry.text.now result.bytes.now result.end result.behind (args_behind self.entry.text.now self.entry.at) }
+        ensures there { ArgumentAt self.entry.text.now result (args_behind self.entry.text.now self.entry.at) }
     {
         let (bytes, behind) = piece_at(self.text, SEPARATOR, self.at);
         Argument {
@@ -51,7 +51,7 @@ impl<'a> Place<'a> {
         ensures end { drop result.end self.entry.text.now ≡ drop (self.entry.at + most) self.entry.text.now }
         ensures behind { result.behind ≡ result.end }
         ensures later { self.entry.at ≤ result.end }
-        ensures there { PartAt self.entry.text.now result.bytes.now result.end result.behind }
+        ensures there { PartAt self.entry.text.now result }
     {
         let rest = &self.text[self.at..];
         let bytes = &rest[..most.min(rest.len())];

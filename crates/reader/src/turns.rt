@@ -26,7 +26,7 @@ pub(crate) enum Turn<'a> {
 
 // An option takes an argument, or what is left of its list.
 fn taken<'a>(code: Code, argument: Argument<'a>) -> Turn<'a>
-    ensures { let a = argument.entry in (o : Options) (text : Bytes) → PartAt text a.bytes.now a.end a.behind → TellsFrom o text a.behind (first_made_at o code text a.bytes.now a.end a.behind) result }
+    ensures { (o : Options) (text : Bytes) → PartAt text argument.entry → TellsFrom o text argument.entry.behind (first_made_at o code text argument.entry) result }
 {
     match make(code, argument.bytes) {
         Some((flag, place)) if place < argument.bytes.len() => {
@@ -65,7 +65,7 @@ fn alone<'a, T: Table>(table: &T, name: &'a [u8], behind: Place<'a>) -> Turn<'a>
 
 // `--name=argument`.
 fn equipped<'a, T: Table>(table: &T, name: &'a [u8], argument: Argument<'a>) -> Turn<'a>
-    ensures { let o = T.Table.means table.now in let a = argument.entry in (text : Bytes) (args : List Bytes) → ArgumentAt text a.bytes.now a.end a.behind args → TellsFrom o text a.behind (first_equipped args (λ t. first_from o t args) (o.long name.now) a.bytes.now) result }
+    ensures { let o = T.Table.means table.now in (text : Bytes) (args : List Bytes) → ArgumentAt text argument.entry args → TellsFrom o text argument.entry.behind (first_equipped args (λ t. first_from o t args) (o.long name.now) argument.entry.bytes.now) result }
 {
     let go_on = Cursor::between(argument.behind);
     match table.lookup_long(name) {
@@ -80,7 +80,7 @@ fn equipped<'a, T: Table>(table: &T, name: &'a [u8], argument: Argument<'a>) -> 
 // A long option, behind its dashes.
 fn long_turn<'a, T: Table>(table: &T, text: &'a [u8], body: Argument<'a>) -> Turn<'a>
     requires { body.behind ≤ length text.now }
-    ensures { let o = T.Table.means table.now in let a = body.entry in (args : List Bytes) → ArgumentAt text.now a.bytes.now a.end a.behind args → TellsFrom o text.now a.behind (first_long args (λ t. first_from o t args) o a.bytes.now) result }
+    ensures { let o = T.Table.means table.now in (args : List Bytes) → ArgumentAt text.now body.entry args → TellsFrom o text.now body.entry.behind (first_long args (λ t. first_from o t args) o body.entry.bytes.now) result }
 {
     match split_once(body.bytes, b'=') {
         Some((name, bytes)) => {

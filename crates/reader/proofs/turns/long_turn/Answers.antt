@@ -1,4 +1,4 @@
-use Rattle.std.proofs.Common.{rules}
+use Rattle.std.proofs.Common.{refl, rules}
 use Rattle.text.specs.Cuts.{Halves}
 use Rattle.reading.specs.Left.{first_from}
 use Rattle.reader.proofs.Arguing.{argument_cut, cut_shorter}
@@ -14,7 +14,7 @@ pub returns-in-Some : goal.returns-in-Some
 returns-in-Some g c =
     let o = g.T.Table.means c.args.table.now in
     let h : Halves = (c.in-Some.name.now, c.in-Some.bytes.now) in
-    λ args is w less. tells_by o _ w _ _ _ (long_equipped args (λ t. first_from o t args) o c.args.body.bytes.now h (search rules)) (c.equipped.ensures _ args (argument_cut _ c.args.body.bytes.now h 61 _ _ args (search rules) c.args.body.long is) w less)
+    λ args is w less. tells_by o _ w _ _ _ (long_equipped args (λ t. first_from o t args) o c.args.body.bytes.now h (search rules)) (c.equipped.ensures _ args (argument_cut _ c.args.body _ 61 h.0 args (search rules) refl refl is) w less)
 
 pub returns-in-None : goal.returns-in-None
 returns-in-None g c =

@@ -1,4 +1,4 @@
-use Rattle.std.proofs.Common.{[], ◌∷◌, arith, rules}
+use Rattle.std.proofs.Common.{[], ◌∷◌, refl, arith, rules}
 use Rattle.text.specs.Shapes.{long, form}
 use Rattle.reading.specs.Left.{first_from}
 use Rattle.reader.specs.Cursors.{args_behind}
@@ -16,8 +16,8 @@ returns-in-Long g c =
     let body = c.in-Long.bytes.now in
     let later = place_later text at (search rules) in
     let args = args_behind text at in
-    let of-body = argument_end text a (45 ∷ 45 ∷ []) body _ _ args (long_is a body (search rules)) c.argument-argument.result.long c.argument-argument.ensures.there in
-    tells_by o text _ _ _ _ (between_first o text at a (long body) (search rules) (search rules)) (c.long_turn.ensures args of-body _ (omega (arith, later, of-body.part.place_within, c.argument-argument.ensures.behind)))
+    let is = c.argument-argument.ensures in
+    tells_by o text _ _ _ _ (between_first o text at a (long body) (search rules) (search rules)) (c.long_turn.ensures args (argument_end text (45 ∷ 45 ∷ []) c.argument-argument.result _ args (long_is a body (search rules)) refl refl is.there) _ (omega (arith, later, is.there.part.behind_within, is.behind)))
 
 pub returns-in-Short : goal.returns-in-Short
 returns-in-Short g c =

@@ -13,4 +13,4 @@ returns c =
     let args = args_behind text c.args.here.at in
     let is = c.argument.ensures.there in
     let bounds = place_bounds text c.args.here.at c.args.here.within in
-    λ o w less. tells_by o _ w _ _ _ (ap (λ a. first_taken c.args.code a args (first_from o free args)) (sym c.argument.ensures.piece) ∙ taken_at o c.args.code text _ _ _ args is) (c.taken.ensures o text is.part w (omega (arith, bounds.0, c.argument.ensures.behind)))
+    λ o w less. tells_by o _ w _ _ _ (ap (λ a. first_taken c.args.code a args (first_from o free args)) (sym c.argument.ensures.piece) ∙ taken_at o c.args.code text c.argument.result args is) (c.taken.ensures o text is.part w (omega (arith, bounds.0, c.argument.ensures.behind)))
