@@ -90,13 +90,13 @@ module _ (text : Bytes) (at : ℕ) where
 module _ (o : Options) (c : Code) where
   owed_by : (args : List Bytes) (a : Bytes) (others : List Bytes) → behind args ≡ a ∷ others → first_from o (long_owed c) args ≡ first_taken c a others (first_from o free others)
   owed_by [] a others e =
-      let first : [] ≡ a = cc in
-      let rest : [] ≡ others = cc in
-      ap (λ l. first_taken c l [] (first_from o free [])) first ∙ ap (λ l. first_taken c a l (first_from o free l)) rest
+      let first : a ≡ [] = cc in
+      let rest : others ≡ [] = cc in
+      rw (first, rest)
   owed_by (b ∷ args) a others e =
-      let first : b ≡ a = cc in
-      let rest : args ≡ others = cc in
-      ap (λ l. first_taken c l args (first_from o free args)) first ∙ ap (λ l. first_taken c a l (first_from o free l)) rest
+      let first : a ≡ b = cc in
+      let rest : others ≡ args = cc in
+      rw (first, rest)
 
   pub long_owed_next : (text : Bytes) (at : ℕ) (args : List Bytes) → pieces 31 (drop at text) ≡ behind args → first_from o (long_owed c) args ≡ first_taken c (piece_at 31 text at) (args_behind text at) (first_from o free (args_behind text at))
   long_owed_next text at args e = owed_by args _ _ (sym e ∙ pieces_here text at)

@@ -51,8 +51,7 @@ two_dashes x y [] body true true f g e = cc
 two_dashes x y (z ∷ zs) body true true f g e =
     let first : x ≡ 45 = eqb-true x 45 f in
     let second : y ≡ 45 = eqb-true y 45 g in
-    let rest : body ≡ z ∷ zs = cc in
-    ap (λ n. n ∷ y ∷ z ∷ zs) first ∙ ap (λ n. 45 ∷ n ∷ z ∷ zs) second ∙ ap (λ l. 45 ∷ 45 ∷ l) (sym rest)
+    cc
 two_dashes x y ys body true false f g e = cc
 two_dashes x y ys body false t f g e = cc
 

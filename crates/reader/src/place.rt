@@ -25,6 +25,7 @@ impl<'a> Place<'a> {
     ghost use Rattle.reader.specs.Cursors.{args_behind};
     ghost use Rattle.reader.specs.Turns.{ArgumentAt, PartAt, ToldByte};
 
+    // The byte there, if the text goes on.
     pub(crate) fn byte(self) -> Option<u8>
         ensures { ToldByte self.entry.text.now self.entry.at result }
     {

@@ -1,4 +1,5 @@
 // One turn of a reader: a flag, something passed over, or the end.
+// The table stands beside the place, in no struct with it: half of the turns need no table.
 ghost use Rattle.std.specs.Prelude.{◌≡◌, ℕ, ◌+◌, ◌-◌, ◌<◌, ◌≤◌, List, length, drop};
 ghost use Rattle.flags.specs.Meaning.{Bytes};
 ghost use Rattle.text.specs.Arguments.{separator, piece_at, pieces, place_behind};
@@ -25,7 +26,7 @@ pub(crate) enum Turn<'a> {
 }
 
 // An option takes an argument, or what is left of its list.
-fn taken<'a>(code: Code, argument: Argument<'a>) -> Turn<'a>
+fn taken(code: Code, argument: Argument<'_>) -> Turn<'_>
     ensures { (o : Options) (text : Bytes) → PartAt text argument.entry → TellsFrom o text argument.entry.behind (first_made_at o code text argument.entry) result }
 {
     match make(code, argument.bytes) {
@@ -43,14 +44,14 @@ fn taken<'a>(code: Code, argument: Argument<'a>) -> Turn<'a>
 }
 
 // An option takes the whole argument at a place.
-fn takes_next<'a>(code: Code, here: Place<'a>) -> Turn<'a>
+fn takes_next(code: Code, here: Place<'_>) -> Turn<'_>
     ensures { let text = here.entry.text.now in let at = here.entry.at in (o : Options) → TellsFrom o text at (first_taken code (piece_at separator text at) (args_behind text at) (first_from o free (args_behind text at))) result }
 {
     taken(code, here.argument())
 }
 
 // `--name`, with what stands behind it.
-fn alone<'a, T: Table>(table: &T, name: &'a [u8], behind: Place<'a>) -> Turn<'a>
+fn alone<'a, T: Table>(table: &T, name: &[u8], behind: Place<'a>) -> Turn<'a>
     ensures { let o = T.Table.means table.now in let text = behind.entry.text.now in let at = behind.entry.at in (args : List Bytes) → pieces separator (drop at text) ≡ behind_of args → TellsFrom o text at (first_alone args (λ t. first_from o t args) (o.long name.now)) result }
 {
     let go_on = Cursor::between(behind.at);
@@ -64,7 +65,7 @@ fn alone<'a, T: Table>(table: &T, name: &'a [u8], behind: Place<'a>) -> Turn<'a>
 }
 
 // `--name=argument`.
-fn equipped<'a, T: Table>(table: &T, name: &'a [u8], argument: Argument<'a>) -> Turn<'a>
+fn equipped<'a, T: Table>(table: &T, name: &[u8], argument: Argument<'a>) -> Turn<'a>
     ensures { let o = T.Table.means table.now in (text : Bytes) (args : List Bytes) → ArgumentAt text argument.entry args → TellsFrom o text argument.entry.behind (first_equipped args (λ t. first_from o t args) (o.long name.now) argument.entry.bytes.now) result }
 {
     let go_on = Cursor::between(argument.behind);
@@ -102,7 +103,7 @@ fn long_turn<'a, T: Table>(table: &T, text: &'a [u8], body: Argument<'a>) -> Tur
 }
 
 // An option in a cluster takes the rest of its argument at a place, or else the next argument.
-fn takes_rest<'a>(code: Code, here: Place<'a>) -> Turn<'a>
+fn takes_rest(code: Code, here: Place<'_>) -> Turn<'_>
     ensures { let text = here.entry.text.now in let at = here.entry.at in (o : Options) → TellsFrom o text at (first_rest (args_behind text at) (λ t. first_from o t (args_behind text at)) code (piece_at separator text at)) result }
 {
     match here.byte() {
@@ -138,14 +139,14 @@ fn letter_turn<'a, T: Table>(table: &T, letter: u8, here: Place<'a>) -> Turn<'a>
 }
 
 // The rest of the argument at a place is passed over.
-fn skipped<'a>(here: Place<'a>) -> Turn<'a>
+fn skipped(here: Place<'_>) -> Turn<'_>
     ensures { let text = here.entry.text.now in let at = here.entry.at in (o : Options) → TellsFrom o text (place_behind separator text at) (first_from o free (args_behind text at)) result }
 {
     Turn::Passes(Cursor::between(here.argument().behind))
 }
 
 // What is left of a list.
-fn list_turn<'a>(code: Code, left: usize, here: Place<'a>) -> Turn<'a>
+fn list_turn(code: Code, left: usize, here: Place<'_>) -> Turn<'_>
     ensures { let text = here.entry.text.now in let at = here.entry.at in (o : Options) (w : ℕ) → weight_in (State.List code left) (length text - at) ≤ w → Tells o text w (first o (left_in (State.List code left) text at)) result }
 {
     taken(code, here.part(left))
