@@ -30,10 +30,10 @@ argument_end text xs a b args e end behind' is = record {
   part = record {
     there = subst (λ n. b.bytes.now ≡ take (length b.bytes.now) (drop (n - length b.bytes.now) text)) end (end_there text xs b.bytes.now a.end (subst (λ l. length l ≤ a.end) e a.long) (subst (λ l. l ≡ take (length l) (drop (a.end - length l) text)) e is.part.there));
     within = subst (λ n. n ≤ length text) end is.part.within;
-    behind_within = subst (λ n. n ≤ length text) behind' is.part.behind_within;
+    same_text = subst (λ p. p.text.now ≡ text) behind' is.part.same_text;
   };
   at_end = subst (λ n. pieces 31 (drop n text) ≡ [] ∷ args) end is.at_end;
-  later = subst (λ n. pieces 31 (drop n text) ≡ behind args) behind' is.later;
+  later = subst (λ p. pieces 31 (drop p.at text) ≡ behind args) behind' is.later;
 }
 
 -- behind a byte of an argument
@@ -62,8 +62,8 @@ module _ (text : Bytes) (at : ℕ) where
     place_bounds = place_by (cut_first 31 (drop at text)) refl
 
     -- the argument there
-    pub argument_there : (a : Argument) → a.bytes.now ≡ piece → a.end ≡ at + length a.bytes.now → a.behind ≡ place_behind 31 text at → ArgumentAt text a (args_behind text at)
-    argument_there a is ends behind' =
+    pub argument_there : (a : Argument) → a.bytes.now ≡ piece → a.end ≡ at + length a.bytes.now → a.behind.at ≡ place_behind 31 text at → a.behind.text.now ≡ text → ArgumentAt text a (args_behind text at)
+    argument_there a is ends behind' same =
         let front = front_by (cut_first 31 (drop at text)) refl in
         let long : length a.bytes.now ≡ length piece = ap length is in
         let last : a.end ≡ at + length piece = omega arith in
@@ -72,7 +72,7 @@ module _ (text : Bytes) (at : ℕ) where
           part = record {
             there = is ∙ sym front.0 ∙ ap (λ n. take n (drop at text)) (sym long) ∙ ap (λ n. take (length a.bytes.now) (drop n text)) here;
             within = omega (arith, front.1, length-drop at text);
-            behind_within = subst (λ n. n ≤ length text) (sym behind') place_bounds.1;
+            same_text = same;
           };
           at_end = ap (λ n. pieces 31 (drop n text)) last ∙ pieces-at_end text at;
           later = ap (λ n. pieces 31 (drop n text)) behind' ∙ pieces_later text at;

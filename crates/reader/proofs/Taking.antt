@@ -40,7 +40,7 @@ module _ (o : Options) (c : Code) (text : Bytes) (a : Argument) where
 
     pub rest_made : first_made_at o c text a ≡ Some (m, in_list c (take left (drop (a.end - left) text)) (pieces 31 (drop (a.end - left + left) text)))
     rest_made =
-        let on : Left = between (pieces 31 (drop a.behind text)) in
+        let on : Left = between (pieces 31 (drop a.behind.at text)) in
         let long : length bytes ≤ a.end = a.long in
         let split : a.end ≡ a.end - left + left = omega arith in
         ap (λ f. elim f as (λ _. First) [ None ↦ first o on | Some made ↦ Some (made.0, rest_left on more (drop made.1 bytes)) ]) (sym e)
@@ -53,10 +53,10 @@ module _ (o : Options) (c : Code) (text : Bytes) (a : Argument) where
   taken_at args is =
       ap (first_made_of c bytes (between (behind args)) (λ rest. in_list c rest ([] ∷ args))) (sym (first_behind o args))
       ∙ ap (λ l. first_made_of c bytes (between l) (λ rest. in_list c rest ([] ∷ args)) (first o (between l))) (sym is.later)
-      ∙ ap (λ l. first_made_of c bytes (between (pieces 31 (drop a.behind text))) (λ rest. in_list c rest l) (first o (between (pieces 31 (drop a.behind text))))) (sym is.at_end)
+      ∙ ap (λ l. first_made_of c bytes (between (pieces 31 (drop a.behind.at text))) (λ rest. in_list c rest l) (first o (between (pieces 31 (drop a.behind.at text))))) (sym is.at_end)
 
   -- what is left of a list
-  pub list_at : (at n : ℕ) → bytes ≡ take n (drop at text) → drop a.end text ≡ drop (at + n) text → a.behind ≡ a.end → first o (in_list c (take n (drop at text)) (pieces 31 (drop (at + n) text))) ≡ first_made_at o c text a
+  pub list_at : (at n : ℕ) → bytes ≡ take n (drop at text) → drop a.end text ≡ drop (at + n) text → a.behind.at ≡ a.end → first o (in_list c (take n (drop at text)) (pieces 31 (drop (at + n) text))) ≡ first_made_at o c text a
   list_at at n is ends last =
       ap (λ l. first o (in_list c l (pieces 31 (drop (at + n) text)))) (sym is)
       ∙ ap (λ l. first o (in_list c bytes (pieces 31 l))) (sym ends)

@@ -33,22 +33,22 @@ Tells o text w f Ends = f ≡ None
 abbrev pub TellsFrom : Options → Bytes → ℕ → First → Turn → Type 0
 TellsFrom o text at f turn = (w : ℕ) → weight text (cursor_between at) < w → Tells o text w f turn
 
--- the bytes end at their place in a text
+-- the bytes end at their place in a text, and reading goes on in the same
 pub record PartAt (text : Bytes) (a : Argument) : Type 0 where
   pub there : a.bytes.now ≡ take (length a.bytes.now) (drop (a.end - length a.bytes.now) text)
   pub within : a.end ≤ length text
-  pub behind_within : a.behind ≤ length text
+  pub same_text : a.behind.text.now ≡ text
 
 -- An argument ends there too, and these are the arguments behind its separator.
 pub record ArgumentAt (text : Bytes) (a : Argument) (args : List Bytes) : Type 0 where
   pub part : PartAt text a
   pub at_end : pieces separator (drop a.end text) ≡ [] ∷ args
-  pub later : pieces separator (drop a.behind text) ≡ behind args
+  pub later : pieces separator (drop a.behind.at text) ≡ behind args
 
 -- the first flag that an option makes of the bytes, or else of what stands behind them
 abbrev pub first_made_at : Options → Code → Bytes → Argument → First
 first_made_at o c text a =
-    let on : Left = between (pieces separator (drop a.behind text)) in
+    let on : Left = between (pieces separator (drop a.behind.at text)) in
     first_made_of c a.bytes.now on (λ rest. in_list c rest (pieces separator (drop a.end text))) (first o on)
 
 -- the byte at a place, if there is one

@@ -16,7 +16,7 @@ pub(crate) struct Place<'a> {
 pub(crate) struct Argument<'a> {
     pub(crate) bytes: &'a [u8],
     pub(crate) end: usize,
-    pub(crate) behind: usize,
+    pub(crate) behind: Place<'a>,
     ghost long: { length bytes.now ≤ end },
 }
 
@@ -35,14 +35,17 @@ impl<'a> Place<'a> {
     // The argument from there on.
     pub(crate) fn argument(self) -> Argument<'a>
         ensures piece { result.bytes.now ≡ piece_at separator self.entry.text.now self.entry.at }
-        ensures behind { result.behind ≡ place_behind separator self.entry.text.now self.entry.at }
+        ensures behind { result.behind.at ≡ place_behind separator self.entry.text.now self.entry.at }
         ensures there { ArgumentAt self.entry.text.now result (args_behind self.entry.text.now self.entry.at) }
     {
         let (bytes, behind) = piece_at(self.text, SEPARATOR, self.at);
         Argument {
             bytes,
             end: self.at + bytes.len(),
-            behind,
+            behind: Place {
+                text: self.text,
+                at: behind,
+            },
         }
     }
 
@@ -50,17 +53,20 @@ impl<'a> Place<'a> {
     pub(crate) fn part(self, most: usize) -> Argument<'a>
         ensures bytes { result.bytes.now ≡ take most (drop self.entry.at self.entry.text.now) }
         ensures end { drop result.end self.entry.text.now ≡ drop (self.entry.at + most) self.entry.text.now }
-        ensures behind { result.behind ≡ result.end }
+        ensures behind { result.behind.at ≡ result.end }
         ensures later { self.entry.at ≤ result.end }
         ensures there { PartAt self.entry.text.now result }
     {
         let rest = &self.text[self.at..];
         let bytes = &rest[..most.min(rest.len())];
-        let end = self.at + bytes.len();
+        let behind = Place {
+            text: self.text,
+            at: self.at + bytes.len(),
+        };
         Argument {
             bytes,
-            end,
-            behind: end,
+            end: behind.at,
+            behind,
         }
     }
 }

@@ -27,7 +27,7 @@ pub(crate) enum Turn<'a> {
 
 // An option takes an argument, or what is left of its list.
 fn taken(code: Code, argument: Argument<'_>) -> Turn<'_>
-    ensures { (o : Options) (text : Bytes) → PartAt text argument.entry → TellsFrom o text argument.entry.behind (first_made_at o code text argument.entry) result }
+    ensures { (o : Options) (text : Bytes) → PartAt text argument.entry → TellsFrom o text argument.entry.behind.at (first_made_at o code text argument.entry) result }
 {
     match make(code, argument.bytes) {
         Some((flag, place)) if place < argument.bytes.len() => {
@@ -38,8 +38,8 @@ fn taken(code: Code, argument: Argument<'_>) -> Turn<'_>
             };
             Turn::Gives(flag, rest)
         }
-        Some((flag, _)) => Turn::Gives(flag, Cursor::between(argument.behind)),
-        None => Turn::Passes(Cursor::between(argument.behind)),
+        Some((flag, _)) => Turn::Gives(flag, Cursor::between(argument.behind.at)),
+        None => Turn::Passes(Cursor::between(argument.behind.at)),
     }
 }
 
@@ -66,9 +66,9 @@ fn alone<'a, T: Table>(table: &T, name: &[u8], behind: Place<'a>) -> Turn<'a>
 
 // `--name=argument`.
 fn equipped<'a, T: Table>(table: &T, name: &[u8], argument: Argument<'a>) -> Turn<'a>
-    ensures { let o = T.Table.means table.now in (text : Bytes) (args : List Bytes) → ArgumentAt text argument.entry args → TellsFrom o text argument.entry.behind (first_equipped args (λ t. first_from o t args) (o.long name.now) argument.entry.bytes.now) result }
+    ensures { let o = T.Table.means table.now in (text : Bytes) (args : List Bytes) → ArgumentAt text argument.entry args → TellsFrom o text argument.entry.behind.at (first_equipped args (λ t. first_from o t args) (o.long name.now) argument.entry.bytes.now) result }
 {
-    let go_on = Cursor::between(argument.behind);
+    let go_on = Cursor::between(argument.behind.at);
     match table.lookup_long(name) {
         Some(code) => match code.bare_flag() {
             Some(_) => Turn::Passes(go_on),
@@ -79,9 +79,8 @@ fn equipped<'a, T: Table>(table: &T, name: &[u8], argument: Argument<'a>) -> Tur
 }
 
 // A long option, behind its dashes.
-fn long_turn<'a, T: Table>(table: &T, text: &'a [u8], body: Argument<'a>) -> Turn<'a>
-    requires { body.behind ≤ length text.now }
-    ensures { let o = T.Table.means table.now in (args : List Bytes) → ArgumentAt text.now body.entry args → TellsFrom o text.now body.entry.behind (first_long args (λ t. first_from o t args) o body.entry.bytes.now) result }
+fn long_turn<'a, T: Table>(table: &T, body: Argument<'a>) -> Turn<'a>
+    ensures { let o = T.Table.means table.now in (text : Bytes) (args : List Bytes) → ArgumentAt text body.entry args → TellsFrom o text body.entry.behind.at (first_long args (λ t. first_from o t args) o body.entry.bytes.now) result }
 {
     match split_once(body.bytes, b'=') {
         Some((name, bytes)) => {
@@ -92,13 +91,7 @@ fn long_turn<'a, T: Table>(table: &T, text: &'a [u8], body: Argument<'a>) -> Tur
             };
             equipped(table, name, argument)
         }
-        None => {
-            let behind = Place {
-                text,
-                at: body.behind,
-            };
-            alone(table, body.bytes, behind)
-        }
+        None => alone(table, body.bytes, body.behind),
     }
 }
 
@@ -142,7 +135,7 @@ fn letter_turn<'a, T: Table>(table: &T, letter: u8, here: Place<'a>) -> Turn<'a>
 fn skipped(here: Place<'_>) -> Turn<'_>
     ensures { let text = here.entry.text.now in let at = here.entry.at in (o : Options) → TellsFrom o text (place_behind separator text at) (first_from o free (args_behind text at)) result }
 {
-    Turn::Passes(Cursor::between(here.argument().behind))
+    Turn::Passes(Cursor::between(here.argument().behind.at))
 }
 
 // What is left of a list.
@@ -165,7 +158,7 @@ fn option_turn<'a, T: Table>(table: &T, here: Place<'a>) -> Turn<'a>
                 end: argument.end,
                 behind: argument.behind,
             };
-            long_turn(table, here.text, body)
+            long_turn(table, body)
         }
         Shape::Short(_) => Turn::Passes(Cursor {
             at: here.at + 1,
@@ -173,7 +166,7 @@ fn option_turn<'a, T: Table>(table: &T, here: Place<'a>) -> Turn<'a>
         }),
         Shape::DoubleDash => Turn::Ends,
         Shape::Empty | Shape::Dash | Shape::Plain => {
-            Turn::Passes(Cursor::between(argument.behind))
+            Turn::Passes(Cursor::between(argument.behind.at))
         }
     }
 }

@@ -1,6 +1,8 @@
-use Rattle.std.proofs.Common.{refl, rules}
+use Rattle.std.proofs.Common.{◌≡◌, drop, refl, ap, ◌∙◌, subst, rules}
+use Rattle.text.specs.Arguments.{pieces}
 use Rattle.text.specs.Cuts.{Halves}
-use Rattle.reading.specs.Left.{first_from}
+use Rattle.reading.specs.Left.{behind as behind_of, first_from, first_alone}
+use Rattle.reader.specs.Turns.{TellsFrom}
 use Rattle.reader.proofs.Arguing.{argument_cut, cut_shorter}
 use Rattle.reader.proofs.Turning.{tells_by, long_equipped, long_alone}
 use Rattle.reader.proofs.turns.long_turn.Goals as goal
@@ -14,9 +16,13 @@ pub returns-in-Some : goal.returns-in-Some
 returns-in-Some g c =
     let o = g.T.Table.means c.args.table.now in
     let h : Halves = (c.in-Some.name.now, c.in-Some.bytes.now) in
-    λ args is w less. tells_by o _ w _ _ _ (long_equipped args (λ t. first_from o t args) o c.args.body.bytes.now h (search rules)) (c.equipped.ensures _ args (argument_cut _ c.args.body _ 61 h.0 args (search rules) refl refl is) w less)
+    λ text args is w less. tells_by o text w _ _ _ (long_equipped args (λ t. first_from o t args) o c.args.body.bytes.now h (search rules)) (c.equipped.ensures text args (argument_cut text c.args.body _ 61 h.0 args (search rules) refl refl is) w less)
 
 pub returns-in-None : goal.returns-in-None
 returns-in-None g c =
     let o = g.T.Table.means c.args.table.now in
-    λ args is w less. tells_by o _ w _ _ _ (long_alone args (λ t. first_from o t args) o c.args.body.bytes.now (search rules)) (c.alone.ensures args is.later w less)
+    let behind = c.args.body.behind in
+    λ text args is w less.
+    let same = is.part.same_text in
+    let here : pieces 31 (drop behind.at behind.text.now) ≡ behind_of args = ap (λ t. pieces 31 (drop behind.at t)) same ∙ is.later in
+    tells_by o text w _ _ _ (long_alone args (λ t. first_from o t args) o c.args.body.bytes.now (search rules)) (subst (λ t. TellsFrom o t behind.at (first_alone args (λ t'. first_from o t' args) (o.long c.args.body.bytes.now)) c.alone.result) same (c.alone.ensures args here) w less)

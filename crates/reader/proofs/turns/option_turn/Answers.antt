@@ -17,7 +17,7 @@ returns-in-Long g c =
     let later = place_later text at (search rules) in
     let args = args_behind text at in
     let is = c.argument-argument.ensures in
-    tells_by o text _ _ _ _ (between_first o text at a (long body) (search rules) (search rules)) (c.long_turn.ensures args (argument_end text (45 ∷ 45 ∷ []) c.argument-argument.result _ args (long_is a body (search rules)) refl refl is.there) _ (omega (arith, later, is.there.part.behind_within, is.behind)))
+    tells_by o text _ _ _ _ (between_first o text at a (long body) (search rules) (search rules)) (c.long_turn.ensures text args (argument_end text (45 ∷ 45 ∷ []) c.argument-argument.result _ args (long_is a body (search rules)) refl refl is.there) _ (omega (arith, later, is.behind)))
 
 pub returns-in-Short : goal.returns-in-Short
 returns-in-Short g c =
