@@ -11,6 +11,7 @@ use Rattle.reading.specs.Reading.{free, long_owed}
 use Rattle.reading.specs.Left.{behind, first_from, first_taken}
 use Rattle.reader.specs.Cursors.{args_behind}
 use Rattle.reader.specs.Turns.{ArgumentAt}
+use Rattle.reader.specs.declared.place.Place.{Place}
 use Rattle.reader.specs.declared.place.Argument.{Argument}
 use Rattle.reader.proofs.Leaving.{pieces_here, pieces_later, pieces-at_end}
 
@@ -25,19 +26,19 @@ end_there text xs ys end long there =
     ∙ ap (take (length ys)) (drop-drop (length xs) (end - length (xs ++ ys)) text ∙ ap (λ n. drop n text) from)
 
 -- the last bytes of an argument are an argument there
-pub argument_end : (text xs : Bytes) (a b : Argument) (args : List Bytes) → a.bytes.now ≡ xs ++ b.bytes.now → a.end ≡ b.end → a.behind ≡ b.behind → ArgumentAt text a args → ArgumentAt text b args
+pub argument_end : (text xs : Bytes) (a b : Argument) (args : List Bytes) → a.bytes.now ≡ xs ++ b.bytes.now → b.end ≡ a.end → b.behind ≡ a.behind → ArgumentAt text a args → ArgumentAt text b args
 argument_end text xs a b args e end behind' is = record {
   part = record {
-    there = subst (λ n. b.bytes.now ≡ take (length b.bytes.now) (drop (n - length b.bytes.now) text)) end (end_there text xs b.bytes.now a.end (subst (λ l. length l ≤ a.end) e a.long) (subst (λ l. l ≡ take (length l) (drop (a.end - length l) text)) e is.part.there));
-    within = subst (λ n. n ≤ length text) end is.part.within;
-    same_text = subst (λ p. p.text.now ≡ text) behind' is.part.same_text;
+    there = subst (λ n. b.bytes.now ≡ take (length b.bytes.now) (drop (n - length b.bytes.now) text)) (sym end) (end_there text xs b.bytes.now a.end (subst (λ l. length l ≤ a.end) e a.long) (subst (λ l. l ≡ take (length l) (drop (a.end - length l) text)) e is.part.there));
+    within = subst (λ n. n ≤ length text) (sym end) is.part.within;
+    same_text = ap (λ (p : Place). p.text.now) behind' ∙ is.part.same_text;
   };
-  at_end = subst (λ n. pieces 31 (drop n text) ≡ [] ∷ args) end is.at_end;
-  later = subst (λ p. pieces 31 (drop p.at text) ≡ behind args) behind' is.later;
+  at_end = ap (λ n. pieces 31 (drop n text)) end ∙ is.at_end;
+  later = ap (λ (p : Place). pieces 31 (drop p.at text)) behind' ∙ is.later;
 }
 
 -- behind a byte of an argument
-pub argument_cut : (text : Bytes) (a b : Argument) (x : ℕ) (xs : Bytes) (args : List Bytes) → Some (xs, b.bytes.now) ≡ cut_first x a.bytes.now → a.end ≡ b.end → a.behind ≡ b.behind → ArgumentAt text a args → ArgumentAt text b args
+pub argument_cut : (text : Bytes) (a b : Argument) (x : ℕ) (xs : Bytes) (args : List Bytes) → Some (xs, b.bytes.now) ≡ cut_first x a.bytes.now → b.end ≡ a.end → b.behind ≡ a.behind → ArgumentAt text a args → ArgumentAt text b args
 argument_cut text a b x xs args cut end behind' is =
     argument_end text (xs ++ x ∷ []) a b args (cut_first_whole x a.bytes.now (xs, b.bytes.now) (sym cut) ∙ sym (append_assoc xs (x ∷ []) b.bytes.now)) end behind' is
 

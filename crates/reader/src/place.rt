@@ -70,3 +70,19 @@ impl<'a> Place<'a> {
         }
     }
 }
+
+impl<'a> Argument<'a> {
+    // Its last bytes.
+    pub(crate) fn last(self, bytes: &'a [u8]) -> Argument<'a>
+        requires { length bytes.now ≤ length self.bytes.now }
+        ensures bytes { result.bytes.now ≡ bytes.now }
+        ensures end { result.end ≡ self.entry.end }
+        ensures behind { result.behind ≡ self.entry.behind }
+    {
+        Argument {
+            bytes,
+            end: self.end,
+            behind: self.behind,
+        }
+    }
+}

@@ -83,14 +83,7 @@ fn long_turn<'a, T: Table>(table: &T, body: Argument<'a>) -> Turn<'a>
     ensures { let o = T.Table.means table.now in (text : Bytes) (args : List Bytes) → ArgumentAt text body.entry args → TellsFrom o text body.entry.behind.at (first_long args (λ t. first_from o t args) o body.entry.bytes.now) result }
 {
     match split_once(body.bytes, b'=') {
-        Some((name, bytes)) => {
-            let argument = Argument {
-                bytes,
-                end: body.end,
-                behind: body.behind,
-            };
-            equipped(table, name, argument)
-        }
+        Some((name, bytes)) => equipped(table, name, body.last(bytes)),
         None => alone(table, body.bytes, body.behind),
     }
 }
@@ -152,14 +145,7 @@ fn option_turn<'a, T: Table>(table: &T, here: Place<'a>) -> Turn<'a>
 {
     let argument = here.argument();
     match shape_of(argument.bytes) {
-        Shape::Long(bytes) => {
-            let body = Argument {
-                bytes,
-                end: argument.end,
-                behind: argument.behind,
-            };
-            long_turn(table, body)
-        }
+        Shape::Long(bytes) => long_turn(table, argument.last(bytes)),
         Shape::Short(_) => Turn::Passes(Cursor {
             at: here.at + 1,
             state: State::Cluster,

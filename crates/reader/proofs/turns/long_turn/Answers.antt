@@ -1,22 +1,21 @@
-use Rattle.std.proofs.Common.{◌≡◌, drop, refl, ap, ◌∙◌, subst, rules}
+use Rattle.std.proofs.Common.{◌≡◌, Some, drop, refl, ap, ◌∙◌, subst, rules}
 use Rattle.text.specs.Arguments.{pieces}
-use Rattle.text.specs.Cuts.{Halves}
+use Rattle.text.specs.Cuts.{cut_first}
 use Rattle.reading.specs.Left.{behind as behind_of, first_from, first_alone}
 use Rattle.reader.specs.Turns.{TellsFrom}
 use Rattle.reader.proofs.Arguing.{argument_cut, cut_shorter}
 use Rattle.reader.proofs.Turning.{tells_by, long_equipped, long_alone}
 use Rattle.reader.proofs.turns.long_turn.Goals as goal
 
-pub invariant_of-argument : goal.invariant_of-argument
-invariant_of-argument g c =
-    let shorter = cut_shorter 61 c.args.body.bytes.now (c.in-Some.name.now, c.in-Some.bytes.now) (search rules) in
-    record { long = search (rules, shorter, c.args.body.long) }
+pub last-requires : goal.last-requires
+last-requires g c = cut_shorter 61 c.args.body.bytes.now (c.in-Some.name.now, c.in-Some.bytes.now) (search rules)
 
 pub returns-in-Some : goal.returns-in-Some
 returns-in-Some g c =
     let o = g.T.Table.means c.args.table.now in
-    let h : Halves = (c.in-Some.name.now, c.in-Some.bytes.now) in
-    λ text args is w less. tells_by o text w _ _ _ (long_equipped args (λ t. first_from o t args) o c.args.body.bytes.now h (search rules)) (c.equipped.ensures text args (argument_cut text c.args.body _ 61 h.0 args (search rules) refl refl is) w less)
+    let argument = c.last.result in
+    let cut : Some (c.in-Some.name.now, argument.bytes.now) ≡ cut_first 61 c.args.body.bytes.now = ap (λ l. Some (c.in-Some.name.now, l)) c.last.ensures.bytes ∙ c.in-Some.ensures.halves in
+    λ text args is w less. tells_by o text w _ _ _ (long_equipped args (λ t. first_from o t args) o c.args.body.bytes.now (c.in-Some.name.now, argument.bytes.now) cut) (c.equipped.ensures text args (argument_cut text c.args.body argument 61 c.in-Some.name.now args cut c.last.ensures.end c.last.ensures.behind is) w (search (rules, less, c.last.ensures.behind)))
 
 pub returns-in-None : goal.returns-in-None
 returns-in-None g c =

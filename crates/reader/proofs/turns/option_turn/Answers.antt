@@ -1,11 +1,14 @@
-use Rattle.std.proofs.Common.{[], ◌∷◌, refl, arith, rules}
+use Rattle.std.proofs.Common.{[], ◌∷◌, ◌≡◌, ◌∙◌, sym, ap, length, arith, rules}
 use Rattle.text.specs.Shapes.{long, form}
-use Rattle.reading.specs.Left.{first_from}
+use Rattle.reading.specs.Left.{first_from, first_long}
 use Rattle.reader.specs.Cursors.{args_behind}
 use Rattle.reader.proofs.Arguing.{argument_end, place_later}
 use Rattle.reader.proofs.Shaped.{between_first, cluster_first, nothing_in, passed_first, ended_first, long_is}
 use Rattle.reader.proofs.Turning.{tells_by}
 use Rattle.reader.proofs.turns.option_turn.Goals as goal
+
+pub last-requires : goal.last-requires
+last-requires g c = omega (arith, ap length (long_is c.argument-argument.result.bytes.now c.in-Long.bytes.now (search rules)))
 
 pub returns-in-Long : goal.returns-in-Long
 returns-in-Long g c =
@@ -17,7 +20,10 @@ returns-in-Long g c =
     let later = place_later text at (search rules) in
     let args = args_behind text at in
     let is = c.argument-argument.ensures in
-    tells_by o text _ _ _ _ (between_first o text at a (long body) (search rules) (search rules)) (c.long_turn.ensures text args (argument_end text (45 ∷ 45 ∷ []) c.argument-argument.result _ args (long_is a body (search rules)) refl refl is.there) _ (omega (arith, later, is.behind)))
+    let last = c.last.ensures in
+    let of-body = argument_end text (45 ∷ 45 ∷ []) c.argument-argument.result c.last.result args (long_is a body (search rules) ∙ ap (λ l. 45 ∷ 45 ∷ l) (sym last.bytes)) last.end last.behind is.there in
+    let behind : c.last.result.behind.at ≡ c.argument-argument.result.behind.at = ap (λ p. p.at) last.behind in
+    tells_by o text _ _ _ _ (between_first o text at a (long body) (search rules) (search rules) ∙ ap (λ l. first_long args (λ t. first_from o t args) o l) (sym last.bytes)) (c.long_turn.ensures text args of-body _ (omega (arith, later, is.behind, behind)))
 
 pub returns-in-Short : goal.returns-in-Short
 returns-in-Short g c =
