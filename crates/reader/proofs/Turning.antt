@@ -10,12 +10,16 @@ use Rattle.reading.specs.Reading.{State, free, long_owed}
 use Rattle.reading.specs.Left.{First, between, in_cluster, behind, first_from, first_taken, first_equipped, first_alone, first_long, first_rest, first_letter, first}
 use Rattle.reader.specs.Cursors.{args_behind, left_in}
 use Rattle.reader.specs.declared.cursor.State.{State as At}
-use Rattle.reader.specs.Turns.{Tells, weight_in}
+use Rattle.reader.specs.Turns.{Tells, TellsFrom, weight_in}
 use Rattle.reader.specs.declared.turns.Turn.{Turn}
 use Rattle.reader.proofs.Leaving.{pieces_here, pieces_later, piece_on, piece_past, args_past, no_piece, args_here, first_behind}
 
 pub tells_by : (o : Options) (text : Bytes) (w : ℕ) (r : Turn) (f g : First) → f ≡ g → Tells o text w g r → Tells o text w f r
 tells_by o text w r f g e t = subst (λ h. Tells o text w h r) (sym e) t
+
+-- a place by another name
+pub tells_moved : (o : Options) (r : Turn) (f : Bytes → ℕ → First) (t text : Bytes) (p at : ℕ) → t ≡ text → p ≡ at → TellsFrom o t p (f t p) r → TellsFrom o text at (f text at) r
+tells_moved o r f t text p at e e' told = subst (λ q. TellsFrom o text q (f text q) r) e' (subst (λ l. TellsFrom o l p (f l p) r) e told)
 
 module _ (args : List Bytes) (later : State → First) (c : Code) (takes : None ≡ (about c).flag) where
   pub equipped_takes : (k : Option Code) (a : Bytes) → Some c ≡ k → first_equipped args later k a ≡ first_taken c a args (later free)

@@ -1,5 +1,5 @@
 // Places in a text, and what stands there.
-ghost use Rattle.std.specs.Prelude.{◌≡◌, ◌+◌, ◌≤◌, length, take, drop};
+ghost use Rattle.std.specs.Prelude.{◌≡◌, ◌+◌, ◌<◌, ◌≤◌, length, take, drop};
 
 use text::{SEPARATOR, piece_at};
 
@@ -30,6 +30,18 @@ impl<'a> Place<'a> {
         ensures { ToldByte self.entry.text.now self.entry.at result }
     {
         self.text.get(self.at).copied()
+    }
+
+    // The place behind the byte there.
+    pub(crate) fn next(self) -> Place<'a>
+        requires { self.at < length self.text.now }
+        ensures text { result.text.now ≡ self.entry.text.now }
+        ensures at { result.at ≡ self.entry.at + 1 }
+    {
+        Place {
+            text: self.text,
+            at: self.at + 1,
+        }
     }
 
     // The argument from there on.

@@ -93,13 +93,7 @@ fn takes_rest(code: Code, here: Place<'_>) -> Turn<'_>
     ensures { let text = here.entry.text.now in let at = here.entry.at in (o : Options) → TellsFrom o text at (first_rest (args_behind text at) (λ t. first_from o t (args_behind text at)) code (piece_at separator text at)) result }
 {
     match here.byte() {
-        Some(SEPARATOR) => {
-            let next = Place {
-                text: here.text,
-                at: here.at + 1,
-            };
-            takes_next(code, next)
-        }
+        Some(SEPARATOR) => takes_next(code, here.next()),
         Some(_) => takes_next(code, here),
         None => Turn::Ends,
     }
@@ -165,13 +159,7 @@ fn turn_at<'a, T: Table>(table: &T, state: State, here: Place<'a>) -> Turn<'a>
         (State::Between, Some(b'-')) => option_turn(table, here),
         (State::Between, Some(_)) => skipped(here),
         (State::Cluster, Some(SEPARATOR)) => Turn::Passes(Cursor::between(here.at + 1)),
-        (State::Cluster, Some(letter)) => {
-            let next = Place {
-                text: here.text,
-                at: here.at + 1,
-            };
-            letter_turn(table, letter, next)
-        }
+        (State::Cluster, Some(letter)) => letter_turn(table, letter, here.next()),
         (State::List(code, left), _) => list_turn(code, left, here),
         (State::Ended, _) => Turn::Ends,
         (_, None) => Turn::Ends,
