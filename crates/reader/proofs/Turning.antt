@@ -7,12 +7,12 @@ use Rattle.text.specs.Arguments.{pieces, piece_at, place_behind}
 use Rattle.text.specs.Cuts.{Halves, cut_first}
 use Rattle.tables.specs.Tables.{Options}
 use Rattle.reading.specs.Reading.{State, free, long_owed}
-use Rattle.reading.specs.Left.{First, between, in_cluster, behind, first_from, first_taken, first_equipped, first_alone, first_long, first_rest, first_letter, first}
+use Rattle.reading.specs.Left.{First, between, first_from, first_taken, first_equipped, first_alone, first_long, first_rest, first_letter, first}
 use Rattle.reader.specs.Cursors.{args_behind, left_in}
 use Rattle.reader.specs.declared.cursor.State.{State as At}
 use Rattle.reader.specs.Turns.{Tells, TellsFrom, weight_in}
 use Rattle.reader.specs.declared.turns.Turn.{Turn}
-use Rattle.reader.proofs.Leaving.{pieces_here, pieces_later, piece_on, piece_past, args_past, no_piece, args_here, first_behind}
+use Rattle.reader.proofs.Leaving.{pieces_here, pieces_later, no_piece, args_here, first_behind}
 
 pub tells_by : (o : Options) (text : Bytes) (w : ℕ) (r : Turn) (f g : First) → f ≡ g → Tells o text w g r → Tells o text w f r
 tells_by o text w r f g e t = subst (λ h. Tells o text w h r) (sym e) t

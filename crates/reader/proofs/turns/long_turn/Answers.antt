@@ -1,4 +1,4 @@
-use Rattle.std.proofs.Common.{◌≡◌, Some, drop, refl, ap, ◌∙◌, subst, rules}
+use Rattle.std.proofs.Common.{◌≡◌, Some, drop, ap, ◌∙◌, subst, rules}
 use Rattle.text.specs.Arguments.{pieces}
 use Rattle.text.specs.Cuts.{cut_first}
 use Rattle.reading.specs.Left.{behind as behind_of, first_from, first_alone}

@@ -1,4 +1,4 @@
-use Rattle.std.proofs.Common.{[], ◌∷◌, ◌≡◌, ◌∙◌, sym, ap, length, arith, rules}
+use Rattle.std.proofs.Common.{[], ◌∷◌, ◌≡◌, ◌∙◌, sym, ap, arith, rules}
 use Rattle.text.specs.Shapes.{long, form}
 use Rattle.reading.specs.Left.{first_from, first_long}
 use Rattle.reader.specs.Cursors.{args_behind}
@@ -6,9 +6,6 @@ use Rattle.reader.proofs.Arguing.{argument_end, place_later}
 use Rattle.reader.proofs.Shaped.{between_first, cluster_first, nothing_in, passed_first, ended_first, long_is}
 use Rattle.reader.proofs.Turning.{tells_by}
 use Rattle.reader.proofs.turns.option_turn.Goals as goal
-
-pub last-requires : goal.last-requires
-last-requires g c = omega (arith, ap length (long_is c.argument-argument.result.bytes.now c.in-Long.bytes.now (search rules)))
 
 pub returns-in-Long : goal.returns-in-Long
 returns-in-Long g c =
