@@ -1,6 +1,6 @@
 -- The argument at a place, and its ends. Assumes nothing.
-use Rattle.std.proofs.Common.{◌≡◌, ℕ, zero, suc, ◌+◌, ◌<◌, ◌≤◌, List, [], ◌∷◌, ◌++◌, length, take, drop, Some, None, Option, sym, refl, ap, ◌∙◌, subst, le_refl, arith, length-append, length-drop}
-use Rattle.std.proofs.lemmas.List.{append_assoc, take_at, take_all}
+use Rattle.std.proofs.Common.{◌≡◌, ℕ, ◌+◌, ◌-◌, ◌<◌, ◌≤◌, List, [], ◌∷◌, ◌++◌, length, take, drop, Some, None, Option, sym, refl, ap, ◌∙◌, subst, le_refl, arith, length-append, length-drop}
+use Rattle.std.proofs.lemmas.List.{append_assoc, drop_at, drop-drop, drop-take, take_at, take_all}
 use Rattle.flags.specs.Meaning.{Bytes}
 use Rattle.flags.specs.declared.kinds.Code.{Code}
 use Rattle.text.specs.Arguments.{pieces, piece_at, place_behind}
@@ -11,23 +11,36 @@ use Rattle.reading.specs.Reading.{free, long_owed}
 use Rattle.reading.specs.Left.{behind, first_from, first_taken}
 use Rattle.reader.specs.Cursors.{args_behind}
 use Rattle.reader.specs.Turns.{ArgumentAt}
+use Rattle.reader.specs.declared.place.Place.{Place}
+use Rattle.reader.specs.declared.place.Argument.{Argument}
 use Rattle.reader.proofs.Leaving.{pieces_here, pieces_later, pieces-at_end}
 
--- the end of an argument is an argument there
-pub argument_end : (text : Bytes) (xs ys : Bytes) (end place : ℕ) (args : List Bytes) → ArgumentAt text (xs ++ ys) end place args → ArgumentAt text ys end place args
-argument_end text xs ys end place args is = record {
-  front = is.front ++ xs;
-  there = is.there ∙ sym (append_assoc is.front xs ys);
-  within = is.within;
-  place_within = is.place_within;
-  at_end = is.at_end;
-  later = is.later;
+end_there : (text xs ys : Bytes) (end : ℕ) → length (xs ++ ys) ≤ end → xs ++ ys ≡ take (length (xs ++ ys)) (drop (end - length (xs ++ ys)) text) → ys ≡ take (length ys) (drop (end - length ys) text)
+end_there text xs ys end long there =
+    let all : length (xs ++ ys) ≡ length xs + length ys = length-append xs ys in
+    let from : end - length (xs ++ ys) + length xs ≡ end - length ys = omega arith in
+    sym (drop_at xs ys _ refl)
+    ∙ ap (drop (length xs)) there
+    ∙ ap (λ n. drop (length xs) (take n (drop (end - length (xs ++ ys)) text))) all
+    ∙ drop-take (length xs) (length ys) (drop (end - length (xs ++ ys)) text)
+    ∙ ap (take (length ys)) (drop-drop (length xs) (end - length (xs ++ ys)) text ∙ ap (λ n. drop n text) from)
+
+-- the last bytes of an argument are an argument there
+pub argument_end : (text xs : Bytes) (a b : Argument) (args : List Bytes) → a.bytes.now ≡ xs ++ b.bytes.now → b.end ≡ a.end → b.behind ≡ a.behind → ArgumentAt text a args → ArgumentAt text b args
+argument_end text xs a b args e end behind' is = record {
+  part = record {
+    there = subst (λ n. b.bytes.now ≡ take (length b.bytes.now) (drop (n - length b.bytes.now) text)) (sym end) (end_there text xs b.bytes.now a.end (subst (λ l. length l ≤ a.end) e a.long) (subst (λ l. l ≡ take (length l) (drop (a.end - length l) text)) e is.part.there));
+    within = subst (λ n. n ≤ length text) (sym end) is.part.within;
+    same_text = ap (λ (p : Place). p.text.now) behind' ∙ is.part.same_text;
+  };
+  at_end = ap (λ n. pieces 31 (drop n text)) end ∙ is.at_end;
+  later = ap (λ (p : Place). pieces 31 (drop p.at text)) behind' ∙ is.later;
 }
 
-take_on : (at n : ℕ) (text : Bytes) → take (at + n) text ≡ take at text ++ take n (drop at text)
-take_on zero n text = let on : zero + n ≡ n = omega arith in ap (λ k. take k text) on
-take_on (suc at) n [] = take_all (suc at + n) [] (omega arith) ∙ sym (take_all n [] (omega arith))
-take_on (suc at) n (x ∷ xs) = let on : suc at + n ≡ suc (at + n) = omega arith in ap (λ k. take k (x ∷ xs)) on ∙ ap (λ l. x ∷ l) (take_on at n xs)
+-- behind a byte of an argument
+pub argument_cut : (text : Bytes) (a b : Argument) (x : ℕ) (xs : Bytes) (args : List Bytes) → Some (xs, b.bytes.now) ≡ cut_first x a.bytes.now → b.end ≡ a.end → b.behind ≡ a.behind → ArgumentAt text a args → ArgumentAt text b args
+argument_cut text a b x xs args cut end behind' is =
+    argument_end text (xs ++ x ∷ []) a b args (cut_first_whole x a.bytes.now (xs, b.bytes.now) (sym cut) ∙ sym (append_assoc xs (x ∷ []) b.bytes.now)) end behind' is
 
 module _ (text : Bytes) (at : ℕ) where
   front_by : (o : Option Halves) → cut_first 31 (drop at text) ≡ o → (let p : Bytes = elim o [ Some h ↦ h.0 | None ↦ drop at text ] in (take (length p) (drop at text) ≡ p) × (length p ≤ length (drop at text)))
@@ -40,7 +53,7 @@ module _ (text : Bytes) (at : ℕ) where
   piece = piece_at 31 text at
 
   module _ (in' : at ≤ length text) where
-    pub place_by : (o : Option Halves) → cut_first 31 (drop at text) ≡ o → (let p : ℕ = elim o [ Some h ↦ at + length h.0 + 1 | None ↦ length text ] in (at ≤ p) × (p ≤ length text))
+    place_by : (o : Option Halves) → cut_first 31 (drop at text) ≡ o → (let p : ℕ = elim o [ Some h ↦ at + length h.0 + 1 | None ↦ length text ] in (at ≤ p) × (p ≤ length text))
     place_by None e = (in', le_refl _)
     place_by (Some h) e =
         let whole = cut_first_whole 31 (drop at text) h e in
@@ -49,49 +62,45 @@ module _ (text : Bytes) (at : ℕ) where
     pub place_bounds : (at ≤ place_behind 31 text at) × (place_behind 31 text at ≤ length text)
     place_bounds = place_by (cut_first 31 (drop at text)) refl
 
-    pub argument_here : ArgumentAt text piece (at + length piece) (place_behind 31 text at) (args_behind text at)
-    argument_here = let front = front_by (cut_first 31 (drop at text)) refl in record {
-      front = take at text;
-      there = take_on at (length piece) text ∙ ap (λ l. take at text ++ l) front.0;
-      within = omega (arith, front.1, length-drop at text);
-      place_within = place_bounds.1;
-      at_end = pieces-at_end text at;
-      later = pieces_later text at;
-    }
+    -- the argument there
+    pub argument_there : (a : Argument) → a.bytes.now ≡ piece → a.end ≡ at + length a.bytes.now → a.behind.at ≡ place_behind 31 text at → a.behind.text.now ≡ text → ArgumentAt text a (args_behind text at)
+    argument_there a is ends behind' same =
+        let front = front_by (cut_first 31 (drop at text)) refl in
+        let long : length a.bytes.now ≡ length piece = ap length is in
+        let last : a.end ≡ at + length piece = omega arith in
+        let here : at ≡ a.end - length a.bytes.now = omega arith in
+        record {
+          part = record {
+            there = is ∙ sym front.0 ∙ ap (λ n. take n (drop at text)) (sym long) ∙ ap (λ n. take (length a.bytes.now) (drop n text)) here;
+            within = omega (arith, front.1, length-drop at text);
+            same_text = same;
+          };
+          at_end = ap (λ n. pieces 31 (drop n text)) last ∙ pieces-at_end text at;
+          later = ap (λ n. pieces 31 (drop n text)) behind' ∙ pieces_later text at;
+        }
+
+  -- behind a byte there is a later place
+  pub place_later : at < length text → at < place_behind 31 text at
+  place_later in' = by (cut_first 31 (drop at text))
+    where
+      by : (o : Option Halves) → at < (elim o as (λ _. ℕ) [ Some h ↦ at + length h.0 + 1 | None ↦ length text ])
+      by None = in'
+      by (Some h) = omega arith
 
 -- a long option takes the next argument, or the empty one
 module _ (o : Options) (c : Code) where
   owed_by : (args : List Bytes) (a : Bytes) (others : List Bytes) → behind args ≡ a ∷ others → first_from o (long_owed c) args ≡ first_taken c a others (first_from o free others)
   owed_by [] a others e =
-      let first : [] ≡ a = cc in
-      let rest : [] ≡ others = cc in
-      ap (λ l. first_taken c l [] (first_from o free [])) first ∙ ap (λ l. first_taken c a l (first_from o free l)) rest
+      let first : a ≡ [] = cc in
+      let rest : others ≡ [] = cc in
+      rw (first, rest)
   owed_by (b ∷ args) a others e =
-      let first : b ≡ a = cc in
-      let rest : args ≡ others = cc in
-      ap (λ l. first_taken c l args (first_from o free args)) first ∙ ap (λ l. first_taken c a l (first_from o free l)) rest
+      let first : a ≡ b = cc in
+      let rest : others ≡ args = cc in
+      rw (first, rest)
 
   pub long_owed_next : (text : Bytes) (at : ℕ) (args : List Bytes) → pieces 31 (drop at text) ≡ behind args → first_from o (long_owed c) args ≡ first_taken c (piece_at 31 text at) (args_behind text at) (first_from o free (args_behind text at))
   long_owed_next text at args e = owed_by args _ _ (sym e ∙ pieces_here text at)
 
--- behind a byte of an argument
-pub argument_cut : (text a : Bytes) (h : Halves) (b end place : ℕ) (args : List Bytes) → Some h ≡ cut_first b a → ArgumentAt text a end place args → ArgumentAt text h.1 end place args
-argument_cut text a h b end place args cut is =
-    argument_end text (b ∷ []) h.1 end place args (argument_end text h.0 (b ∷ h.1) end place args (subst (λ l. ArgumentAt text l end place args) (cut_first_whole b a h (sym cut)) is))
-
 pub cut_shorter : (b : ℕ) (a : Bytes) (h : Halves) → Some h ≡ cut_first b a → length h.1 ≤ length a
 cut_shorter b a h cut = omega (arith, ap length (cut_first_whole b a h (sym cut)), length-append h.0 (b ∷ h.1))
-
--- behind a byte there is a later place
-pub place_later : (text : Bytes) (at : ℕ) → at < length text → at < place_behind 31 text at
-place_later text at in' = by (cut_first 31 (drop at text))
-  where
-    by : (o : Option Halves) → at < (elim o as (λ _. ℕ) [ Some h ↦ at + length h.0 + 1 | None ↦ length text ])
-    by None = in'
-    by (Some h) = omega arith
-
--- the argument at a place, by the names that a cut gives it
-pub argument_there : (text : Bytes) (at : ℕ) → at ≤ length text → (a : Bytes) (place : ℕ) → a ≡ piece_at 31 text at → place ≡ place_behind 31 text at → ArgumentAt text a (at + length a) place (args_behind text at)
-argument_there text at in' a place is behind' =
-    subst (λ p. ArgumentAt text a (at + length a) p (args_behind text at)) (sym behind')
-    (subst (λ b. ArgumentAt text b (at + length b) (place_behind 31 text at) (args_behind text at)) (sym is) (argument_here text at in'))

@@ -1,12 +1,14 @@
 -- An argument by its shape. Assumes nothing.
-use Rattle.std.proofs.Common.{◌≡◌, ℕ, ◌+◌, Bool, true, false, cond, eqb, List, [], ◌∷◌, drop, None, sym, refl, ap, ◌∙◌, ⊎_elim, arith}
+use Rattle.std.proofs.Common.{◌≡◌, ℕ, ◌+◌, Bool, true, false, cond, eqb, List, [], ◌∷◌, drop, None, sym, refl, ap, ◌∙◌, ◌⊎◌, ⊎_elim, arith}
 use Rattle.std.proofs.lemmas.Bool.{both_ways, cases_Bool, cond-false, eqb-true, eq-eqb, ne_eqb}
 use Rattle.flags.specs.Meaning.{Bytes}
 use Rattle.text.specs.Arguments.{pieces, piece_at, place_behind}
-use Rattle.text.specs.Shapes.{Form, form_of, behind_two, empty, single, double, long, short, plain}
+use Rattle.text.specs.Shapes.{Form, form, form_of, behind_two, empty, single, double, long, short, plain}
+use Rattle.text.specs.declared.shapes.Shape.{Shape}
+use Rattle.text.specs.declared.shapes.Shape.TheVariants.{Empty, Dash, Plain}
 use Rattle.tables.specs.Tables.{Options}
-use Rattle.reading.specs.Reading.{free}
-use Rattle.reading.specs.Left.{between, in_cluster, first, first_from, first_free, first_letter, first_cluster}
+use Rattle.reading.specs.Reading.{State, free}
+use Rattle.reading.specs.Left.{First, between, in_cluster, first, first_from, first_free, first_letter, first_cluster}
 use Rattle.reader.specs.Cursors.{args_behind}
 use Rattle.reader.proofs.Leaving.{pieces_here, piece_on, args_on, no_piece, first_ended}
 use Rattle.reader.proofs.Turning.{skipped_first}
@@ -35,33 +37,38 @@ module _ (o : Options) (text : Bytes) (at : ℕ) where
       ∙ ap (λ l. first_cluster l (λ t. first_from o t l) o (piece_at 31 text (at + 1))) (args_on text at 45 here not_separator)
     where
       at_second : (letters : Bytes) (y : ℕ) (ys : Bytes) (t : Bool) → short letters ≡ cond t (behind_two ys) (short (y ∷ ys)) → letters ≡ y ∷ ys
-      at_second letters y [] true e = absurd (let z : ◌≡◌ {A = ℕ} 0 1 = cc in omega arith)
-      at_second letters y (z ∷ zs) true e = absurd (let z : ◌≡◌ {A = ℕ} 0 1 = cc in omega arith)
+      at_second letters y [] true e = cc
+      at_second letters y (z ∷ zs) true e = cc
       at_second letters y ys false e = cc
 
       letters_are : (letters bs : Bytes) → short letters ≡ form_of (45 ∷ bs) → letters ≡ bs
-      letters_are letters [] e = absurd (let z : ◌≡◌ {A = ℕ} 0 1 = cc in omega arith)
+      letters_are letters [] e = cc
       letters_are letters (y ∷ ys) e = at_second letters y ys (eqb y 45) e
 
 -- the bytes behind two dashes
 two_dashes : (x y : ℕ) (ys body : Bytes) (s t : Bool) → eqb x 45 ≡ s → eqb y 45 ≡ t → long body ≡ cond s (cond t (behind_two ys) (short (y ∷ ys))) plain → x ∷ y ∷ ys ≡ 45 ∷ 45 ∷ body
-two_dashes x y [] body true true f g e = absurd (let z : ◌≡◌ {A = ℕ} 0 1 = cc in omega arith)
+two_dashes x y [] body true true f g e = cc
 two_dashes x y (z ∷ zs) body true true f g e =
     let first : x ≡ 45 = eqb-true x 45 f in
     let second : y ≡ 45 = eqb-true y 45 g in
-    let rest : body ≡ z ∷ zs = cc in
-    ap (λ n. n ∷ y ∷ z ∷ zs) first ∙ ap (λ n. 45 ∷ n ∷ z ∷ zs) second ∙ ap (λ l. 45 ∷ 45 ∷ l) (sym rest)
-two_dashes x y ys body true false f g e = absurd (let z : ◌≡◌ {A = ℕ} 0 1 = cc in omega arith)
-two_dashes x y ys body false t f g e = absurd (let z : ◌≡◌ {A = ℕ} 0 1 = cc in omega arith)
+    cc
+two_dashes x y ys body true false f g e = cc
+two_dashes x y ys body false t f g e = cc
 
 one_byte : (x : ℕ) (body : Bytes) (s : Bool) → long body ≡ cond s single plain → ⊥
-one_byte x body true e = absurd (let z : ◌≡◌ {A = ℕ} 0 1 = cc in omega arith)
-one_byte x body false e = absurd (let z : ◌≡◌ {A = ℕ} 0 1 = cc in omega arith)
+one_byte x body true e = cc
+one_byte x body false e = cc
 
 pub long_is : (a body : Bytes) → long body ≡ form_of a → a ≡ 45 ∷ 45 ∷ body
-long_is [] body e = absurd (let z : ◌≡◌ {A = ℕ} 0 1 = cc in omega arith)
+long_is [] body e = cc
 long_is (x ∷ []) body e = absurd (one_byte x body (eqb x 45) e)
 long_is (x ∷ y ∷ ys) body e = two_dashes x y ys body (eqb x 45) (eqb y 45) refl refl e
+
+-- a shape that gives nothing
+pub nothing_in : (o : Options) (args : List Bytes) (later : State → First) (s : Shape) → (s ≡ Empty) ⊎ ((s ≡ Dash) ⊎ (s ≡ Plain)) → first_free args later o (form s) ≡ later free
+nothing_in o args later s is =
+    let gives : Shape → First = λ x. first_free args later o (form x) in
+    ⊎_elim (λ e. ap gives e) (λ others. ⊎_elim (λ e. ap gives e) (λ e. ap gives e) others) is
 
 -- an argument that gives nothing is passed over
 pub passed_first : (o : Options) (text : Bytes) (at place : ℕ) (a : Bytes) (f : Form) → a ≡ piece_at 31 text at → place ≡ place_behind 31 text at → f ≡ form_of a → first_free (args_behind text at) (λ t. first_from o t (args_behind text at)) o f ≡ first_from o free (args_behind text at) → first o (between (pieces 31 (drop at text))) ≡ first o (between (pieces 31 (drop place text)))

@@ -26,9 +26,13 @@ left_in Ended text at = between ([] ∷ [])
 abbrev pub left_of : Cursor → Bytes → Left
 left_of c text = left_in c.state text c.at
 
+-- at the start of an argument
+abbrev pub cursor_between : ℕ → Cursor
+cursor_between at = record { at = at; state = Between }
+
 -- at the start of a text
 abbrev pub start : Cursor
-start = record { at = 0; state = Between }
+start = cursor_between 0
 
 -- a text of at most 65,535 bytes is read from its start; another is refused
 abbrev pub opened : Bytes → Result Cursor Refusal

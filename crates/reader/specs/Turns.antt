@@ -1,13 +1,15 @@
 -- What one turn of a reader tells: the definitions go on from there. It adds nothing to them. Assumes nothing.
-use Rattle.std.specs.Prelude.{◌≡◌, ℕ, suc, ◌+◌, ◌-◌, ◌<◌, ◌≤◌, List, [], ◌∷◌, ◌++◌, length, take, drop, Some, None, Option}
+use Rattle.std.specs.Prelude.{◌≡◌, ℕ, suc, ◌+◌, ◌-◌, ◌<◌, ◌≤◌, List, [], ◌∷◌, length, take, drop, Some, None, Option}
 use Rattle.flags.specs.Meaning.{Bytes, meaning}
+use Rattle.flags.specs.declared.kinds.Code.{Code}
 use Rattle.text.specs.Arguments.{separator, pieces}
 use Rattle.tables.specs.Tables.{Options}
-use Rattle.reading.specs.Left.{First, behind, first}
-use Rattle.reader.specs.Cursors.{left_of}
+use Rattle.reading.specs.Left.{Left, First, between, in_list, behind, first_made_of, first}
+use Rattle.reader.specs.Cursors.{cursor_between, left_of}
 use Rattle.reader.specs.declared.cursor.Cursor.{Cursor}
 use Rattle.reader.specs.declared.cursor.State.{State}
 use Rattle.reader.specs.declared.cursor.State.TheVariants.{Between, Cluster, List as InList, Ended}
+use Rattle.reader.specs.declared.place.Argument.{Argument}
 use Rattle.reader.specs.declared.turns.Turn.{Turn}
 use Rattle.reader.specs.declared.turns.Turn.TheVariants.{Gives, Passes, Ends}
 
@@ -27,14 +29,27 @@ Tells o text w f (Gives flag c) = (f ≡ Some (meaning flag, left_of c text)) ×
 Tells o text w f (Passes c) = (f ≡ first o (left_of c text)) × (weight text c < w)
 Tells o text w f Ends = f ≡ None
 
--- an argument in a text: where it ends, the place behind its separator, and the arguments behind it
-pub record ArgumentAt (text argument : Bytes) (end place : ℕ) (args : List Bytes) : Type 0 where
-  pub front : Bytes
-  pub there : take end text ≡ front ++ argument
-  pub within : end ≤ length text
-  pub place_within : place ≤ length text
-  pub at_end : pieces separator (drop end text) ≡ [] ∷ args
-  pub later : pieces separator (drop place text) ≡ behind args
+-- The same at an argument that begins at a place, for each cursor that has more left than is left there.
+abbrev pub TellsFrom : Options → Bytes → ℕ → First → Turn → Type 0
+TellsFrom o text at f turn = (w : ℕ) → weight text (cursor_between at) < w → Tells o text w f turn
+
+-- the bytes end at their place in a text, and reading goes on in the same
+pub record PartAt (text : Bytes) (a : Argument) : Type 0 where
+  pub there : a.bytes.now ≡ take (length a.bytes.now) (drop (a.end - length a.bytes.now) text)
+  pub within : a.end ≤ length text
+  pub same_text : a.behind.text.now ≡ text
+
+-- An argument ends there too, and these are the arguments behind its separator.
+pub record ArgumentAt (text : Bytes) (a : Argument) (args : List Bytes) : Type 0 where
+  pub part : PartAt text a
+  pub at_end : pieces separator (drop a.end text) ≡ [] ∷ args
+  pub later : pieces separator (drop a.behind.at text) ≡ behind args
+
+-- the first flag that an option makes of the bytes, or else of what stands behind them
+abbrev pub first_made_at : Options → Code → Bytes → Argument → First
+first_made_at o c text a =
+    let on : Left = between (pieces separator (drop a.behind.at text)) in
+    first_made_of c a.bytes.now on (λ rest. in_list c rest (pieces separator (drop a.end text))) (first o on)
 
 -- the byte at a place, if there is one
 pub record ByteAt (text : Bytes) (at : ℕ) (x : ℕ) : Type 0 where

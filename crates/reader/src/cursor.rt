@@ -18,3 +18,18 @@ pub struct Cursor {
     pub(crate) at: usize,
     pub(crate) state: State,
 }
+
+impl Cursor {
+    ghost use Rattle.std.specs.Prelude.{◌≡◌};
+    ghost use Rattle.reader.specs.Cursors.{cursor_between};
+
+    // At the start of an argument.
+    pub(crate) fn between(at: usize) -> Cursor
+        ensures { result ≡ cursor_between at }
+    {
+        Cursor {
+            at,
+            state: State::Between,
+        }
+    }
+}

@@ -2,6 +2,7 @@
 #![tactic(auto)]
 
 mod cursor;
+mod place;
 mod reader;
 mod turns;
 

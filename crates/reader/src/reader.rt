@@ -4,7 +4,6 @@ ghost use Rattle.std.specs.Option.{option_map, option_to_list};
 ghost use Rattle.flags.specs.Meaning.{meaning};
 ghost use Rattle.reading.specs.Left.{first, after, coming};
 ghost use Rattle.reader.specs.Cursors.{left_of, opened, AllComing, at_end, Comes};
-ghost use Rattle.reader.specs.Turns.{weight};
 
 use super::cursor::{Cursor, State};
 use super::turns::{Turn, one_turn};
@@ -12,75 +11,40 @@ use flags::Flag;
 use tables::Table;
 use text::{Refusal, check_text};
 
-// A place past the text is its end.
-fn clipped(cursor: Cursor, text: &[u8]) -> Cursor
-    ensures same { left_of result text.now ≡ left_of cursor text.now }
-    ensures within { result.at ≤ length text.now }
-    ensures weighs { weight text.now result ≡ weight text.now cursor }
-{
-    if cursor.at <= text.len() {
-        cursor
-    } else {
-        Cursor {
-            at: text.len(),
-            state: cursor.state,
-        }
-    }
-}
-
-fn next_from<'a, T: Table>(table: &T, start: Cursor, text: &'a [u8]) -> (Option<Flag<'a>>, Cursor)
-    ensures answer { option_map meaning result.0 ≡ option_map (λ p. p.0) (first (T.Table.means table.now) (left_of start text.now)) }
-    ensures left { left_of result.1 text.now ≡ after (first (T.Table.means table.now) (left_of start text.now)) }
-    ensures within { result.1.at ≤ length text.now }
-    ensures comes { Comes (T.Table.means table.now) (left_of start text.now) (option_map meaning result.0) (left_of result.1 text.now) }
-{
-    let mut cursor = start;
-    loop {
-        match one_turn(table, clipped(cursor, text), text) {
-            Turn::Gives(flag, behind) => return (Some(flag), behind),
-            Turn::Passes(on) => cursor = on,
-            Turn::Ends => {
-                let end = Cursor {
-                    at: text.len(),
-                    state: State::Ended,
-                };
-                return (None, end);
-            }
-        }
-    }
-}
-
-// The start of a text that is not too long. What is to come there are the flags of its arguments.
-fn at_start(text: &[u8]) -> Result<Cursor, Refusal>
-    ensures answer { result ≡ opened text.now }
-    ensures all { AllComing text.now }
-{
-    check_text(text)?;
-    Ok(Cursor {
-        at: 0,
-        state: State::Between,
-    })
-}
-
 impl Cursor {
-    // A reader at the start of a text.
+    // A reader at the start of a text that is not too long. What is to come there are the flags of its arguments.
     pub fn open(text: &[u8]) -> Result<Cursor, Refusal>
         ensures answer { result ≡ opened text.now }
         ensures all { AllComing text.now }
     {
-        at_start(text)
+        check_text(text)?;
+        Ok(Cursor::between(0))
     }
 
     // The next flag of a text under a table, or none.
+    #[tactic(auto, using(crate::proofs::Comings::gives_comes, crate::proofs::Comings::ends_comes))]
     pub fn next<'a, T: Table>(&mut self, text: &'a [u8], table: &T) -> Option<Flag<'a>>
         ensures answer { option_map meaning result ≡ option_map (λ p. p.0) (first (T.Table.means table.now) (left_of self.old text.now)) }
         ensures left { left_of self.new text.now ≡ after (first (T.Table.means table.now) (left_of self.old text.now)) }
         ensures within { self.new.at ≤ length text.now }
         ensures comes { Comes (T.Table.means table.now) (left_of self.old text.now) (option_map meaning result) (left_of self.new text.now) }
     {
-        let (flag, cursor) = next_from(table, *self, text);
-        *self = cursor;
-        flag
+        loop {
+            match one_turn(table, *self, text) {
+                Turn::Gives(flag, behind) => {
+                    *self = behind;
+                    return Some(flag);
+                }
+                Turn::Passes(on) => *self = on,
+                Turn::Ends => {
+                    *self = Cursor {
+                        at: text.len(),
+                        state: State::Ended,
+                    };
+                    return None;
+                }
+            }
+        }
     }
 
     // Whether the text is read to its end.

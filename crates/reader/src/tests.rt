@@ -4,14 +4,13 @@ use tables::Rustc;
 // The numbers of the kinds of a text's first flags, each with 100 more where the text is read to its end then; 99 and 199 are no flag.
 fn told(text: &[u8]) -> [u8; 4] {
     let mut out = [0; 4];
-    if let Ok(start) = Cursor::open(text) {
-        let mut cursor = start;
-        for place in 0..4usize {
+    if let Ok(mut cursor) = Cursor::open(text) {
+        for place in &mut out {
             let kind = match cursor.next(text, &Rustc) {
                 Some(flag) => flag.kind().number(),
                 None => 99,
             };
-            out[place] = if cursor.ended(text) { kind + 100 } else { kind };
+            *place = if cursor.ended(text) { kind + 100 } else { kind };
         }
     }
     out

@@ -1,22 +1,23 @@
 // One turn of a reader: a flag, something passed over, or the end.
-ghost use Rattle.std.specs.Prelude.{◌≡◌, ℕ, ◌+◌, ◌-◌, ◌<◌, ◌≤◌, List, [], ◌∷◌, length, take, drop};
+// The table stands beside the place, in no struct with it: half of the turns need no table.
+ghost use Rattle.std.specs.Prelude.{◌≡◌, ℕ, ◌+◌, ◌-◌, ◌<◌, ◌≤◌, List, length, drop};
 ghost use Rattle.flags.specs.Meaning.{Bytes};
-ghost use Rattle.text.specs.Arguments.{piece_at, pieces, place_behind};
-ghost use Rattle.reading.specs.Left.{behind as behindOf, first_from, first_taken, first_long, first_alone, first_equipped, first_rest, first_letter, first_made_of, between, in_list, first};
+ghost use Rattle.text.specs.Arguments.{separator, piece_at, pieces, place_behind};
+ghost use Rattle.text.specs.Shapes.{dash};
+ghost use Rattle.reading.specs.Left.{behind as behind_of, first_from, first_taken, first_long, first_alone, first_equipped, first_rest, first_letter, first};
 ghost use Rattle.reading.specs.Reading.{free};
-ghost use Rattle.reader.specs.Cursors.{args_behind, left_of};
-ghost use Rattle.reader.specs.Turns.{Tells, weight, ArgumentAt, ByteAt, ToldByte};
+ghost use Rattle.reader.specs.Cursors.{args_behind, cursor_between, left_in, left_of};
+ghost use Rattle.reader.specs.Turns.{Tells, TellsFrom, weight, weight_in, PartAt, ArgumentAt, ByteAt, first_made_at};
 ghost use Rattle.tables.specs.Tables.{Options};
 
 use super::cursor::{Cursor, State};
+use super::place::{Argument, Place};
 use construct::make;
 use flags::{Code, Flag};
 use tables::Table;
-use text::{Shape, piece_at, shape_of, split_once};
+use text::{SEPARATOR, Shape, shape_of, split_once};
 
-// Between two arguments.
-pub(crate) const SEPARATOR: u8 = 0x1f;
-
+// Three cases, each with what it needs: neither an Option nor a Result has so many.
 #[derive(Clone, Copy)]
 pub(crate) enum Turn<'a> {
     Gives(Flag<'a>, Cursor),
@@ -24,242 +25,154 @@ pub(crate) enum Turn<'a> {
     Ends,
 }
 
-// An option takes an argument, which ends at a place of the text; behind its separator reading goes on.
-fn taken<'a>(code: Code, arg: &'a [u8], text: &'a [u8], end: usize, behind: usize) -> Turn<'a>
-    requires { length arg.now ≤ end }
-    ensures { (o : Options) (args : List Bytes) (w : ℕ) → ArgumentAt text.now arg.now end behind args → weight text.now (record { at = behind; state = State.Between }) < w → Tells o text.now w (first_taken code arg.now args (first_from o free args)) result }
+// An option takes an argument, or what is left of its list.
+fn taken(code: Code, argument: Argument<'_>) -> Turn<'_>
+    ensures { (o : Options) (text : Bytes) → PartAt text argument.entry → TellsFrom o text argument.entry.behind.at (first_made_at o code text argument.entry) result }
 {
-    match make(code, arg) {
-        Some((flag, place)) => {
-            if place < arg.len() {
-                let left = arg.len() - place;
-                let rest = Cursor {
-                    at: end - left,
-                    state: State::List(code, left),
-                };
-                Turn::Gives(flag, rest)
-            } else {
-                Turn::Gives(
-                    flag,
-                    Cursor {
-                        at: behind,
-                        state: State::Between,
-                    },
-                )
-            }
+    match make(code, argument.bytes) {
+        Some((flag, place)) if place < argument.bytes.len() => {
+            let left = argument.bytes.len() - place;
+            let rest = Cursor {
+                at: argument.end - left,
+                state: State::List(code, left),
+            };
+            Turn::Gives(flag, rest)
         }
-        None => Turn::Passes(Cursor {
-            at: behind,
-            state: State::Between,
-        }),
+        Some((flag, _)) => Turn::Gives(flag, Cursor::between(argument.behind.at)),
+        None => Turn::Passes(Cursor::between(argument.behind.at)),
     }
 }
 
 // An option takes the whole argument at a place.
-fn takes_next<'a>(code: Code, text: &'a [u8], at: usize) -> Turn<'a>
-    requires { at ≤ length text.now }
-    ensures { (o : Options) (w : ℕ) → weight text.now (record { at = at; state = State.Between }) < w → Tells o text.now w (first_taken code (piece_at 31 text.now at) (args_behind text.now at) (first_from o free (args_behind text.now at))) result }
+fn takes_next(code: Code, here: Place<'_>) -> Turn<'_>
+    ensures { let text = here.entry.text.now in let at = here.entry.at in (o : Options) → TellsFrom o text at (first_taken code (piece_at separator text at) (args_behind text at) (first_from o free (args_behind text at))) result }
 {
-    let (arg, behind) = piece_at(text, SEPARATOR, at);
-    taken(code, arg, text, at + arg.len(), behind)
+    taken(code, here.argument())
 }
 
-// `--name`, with what stands behind it at a place.
-fn alone<'a, T: Table>(table: &T, name: &'a [u8], text: &'a [u8], behind: usize) -> Turn<'a>
-    requires { behind ≤ length text.now }
-    ensures { (args : List Bytes) (w : ℕ) → pieces 31 (drop behind text.now) ≡ behindOf args → weight text.now (record { at = behind; state = State.Between }) < w → Tells (T.Table.means table.now) text.now w (first_alone args (λ t. first_from (T.Table.means table.now) t args) ((T.Table.means table.now).long name.now)) result }
+// `--name`, with what stands behind it.
+fn alone<'a, T: Table>(table: &T, name: &[u8], behind: Place<'a>) -> Turn<'a>
+    ensures { let o = T.Table.means table.now in let text = behind.entry.text.now in let at = behind.entry.at in (args : List Bytes) → pieces separator (drop at text) ≡ behind_of args → TellsFrom o text at (first_alone args (λ t. first_from o t args) (o.long name.now)) result }
 {
-    let go_on = Cursor {
-        at: behind,
-        state: State::Between,
-    };
+    let go_on = Cursor::between(behind.at);
     match table.lookup_long(name) {
         Some(code) => match code.bare_flag() {
             Some(flag) => Turn::Gives(flag, go_on),
-            None => takes_next(code, text, behind),
+            None => takes_next(code, behind),
         },
         None => Turn::Passes(go_on),
     }
 }
 
-// `--name=arg`, which ends at a place of the text.
-fn equipped<'a, T: Table>(
-    table: &T,
-    name: &'a [u8],
-    arg: &'a [u8],
-    text: &'a [u8],
-    end: usize,
-    behind: usize,
-) -> Turn<'a>
-    requires { length arg.now ≤ end }
-    ensures { (args : List Bytes) (w : ℕ) → ArgumentAt text.now arg.now end behind args → weight text.now (record { at = behind; state = State.Between }) < w → Tells (T.Table.means table.now) text.now w (first_equipped args (λ t. first_from (T.Table.means table.now) t args) ((T.Table.means table.now).long name.now) arg.now) result }
+// `--name=argument`.
+fn equipped<'a, T: Table>(table: &T, name: &[u8], argument: Argument<'a>) -> Turn<'a>
+    ensures { let o = T.Table.means table.now in (text : Bytes) (args : List Bytes) → ArgumentAt text argument.entry args → TellsFrom o text argument.entry.behind.at (first_equipped args (λ t. first_from o t args) (o.long name.now) argument.entry.bytes.now) result }
 {
-    let go_on = Cursor {
-        at: behind,
-        state: State::Between,
-    };
+    let go_on = Cursor::between(argument.behind.at);
     match table.lookup_long(name) {
         Some(code) => match code.bare_flag() {
             Some(_) => Turn::Passes(go_on),
-            None => taken(code, arg, text, end, behind),
+            None => taken(code, argument),
         },
         None => Turn::Passes(go_on),
     }
 }
 
 // A long option, behind its dashes.
-fn long_turn<'a, T: Table>(
-    table: &T,
-    body: &'a [u8],
-    text: &'a [u8],
-    end: usize,
-    behind: usize,
-) -> Turn<'a>
-    requires { (length body.now ≤ end) × (behind ≤ length text.now) }
-    ensures { (args : List Bytes) (w : ℕ) → ArgumentAt text.now body.now end behind args → weight text.now (record { at = behind; state = State.Between }) < w → Tells (T.Table.means table.now) text.now w (first_long args (λ t. first_from (T.Table.means table.now) t args) (T.Table.means table.now) body.now) result }
+fn long_turn<'a, T: Table>(table: &T, body: Argument<'a>) -> Turn<'a>
+    ensures { let o = T.Table.means table.now in (text : Bytes) (args : List Bytes) → ArgumentAt text body.entry args → TellsFrom o text body.entry.behind.at (first_long args (λ t. first_from o t args) o body.entry.bytes.now) result }
 {
-    match split_once(body, b'=') {
-        Some((name, arg)) => equipped(table, name, arg, text, end, behind),
-        None => alone(table, body, text, behind),
-    }
-}
-
-fn byte_at(text: &[u8], at: usize) -> Option<u8>
-    ensures { ToldByte text.now at result }
-{
-    if at < text.len() {
-        Some(text[at])
-    } else {
-        None
+    match split_once(body.bytes, b'=') {
+        Some((name, bytes)) => equipped(table, name, body.last(bytes)),
+        None => alone(table, body.bytes, body.behind),
     }
 }
 
 // An option in a cluster takes the rest of its argument at a place, or else the next argument.
-fn takes_rest<'a>(code: Code, text: &'a [u8], at: usize) -> Turn<'a>
-    requires { at ≤ length text.now }
-    ensures { (o : Options) (w : ℕ) → weight text.now (record { at = at; state = State.Between }) < w → Tells o text.now w (first_rest (args_behind text.now at) (λ t. first_from o t (args_behind text.now at)) code (piece_at 31 text.now at)) result }
+fn takes_rest(code: Code, here: Place<'_>) -> Turn<'_>
+    ensures { let text = here.entry.text.now in let at = here.entry.at in (o : Options) → TellsFrom o text at (first_rest (args_behind text at) (λ t. first_from o t (args_behind text at)) code (piece_at separator text at)) result }
 {
-    match byte_at(text, at) {
-        Some(byte) => {
-            if byte == SEPARATOR {
-                takes_next(code, text, at + 1)
-            } else {
-                takes_next(code, text, at)
-            }
-        }
+    match here.byte() {
+        Some(SEPARATOR) => takes_next(code, here.next()),
+        Some(_) => takes_next(code, here),
         None => Turn::Ends,
     }
 }
 
 // A letter of a cluster, which stands before a place.
-fn letter_turn<'a, T: Table>(table: &T, letter: u8, text: &'a [u8], at: usize) -> Turn<'a>
-    requires { at ≤ length text.now }
-    ensures { (w : ℕ) → weight text.now (record { at = at; state = State.Between }) < w → Tells (T.Table.means table.now) text.now w (first_letter (args_behind text.now at) (λ t. first_from (T.Table.means table.now) t (args_behind text.now at)) ((T.Table.means table.now).short letter) (piece_at 31 text.now at)) result }
+fn letter_turn<'a, T: Table>(table: &T, letter: u8, here: Place<'a>) -> Turn<'a>
+    ensures { let o = T.Table.means table.now in let text = here.entry.text.now in let at = here.entry.at in TellsFrom o text at (first_letter (args_behind text at) (λ t. first_from o t (args_behind text at)) (o.short letter) (piece_at separator text at)) result }
 {
     match table.lookup_short(letter) {
         Some(code) => match code.bare_flag() {
-            Some(flag) => Turn::Gives(
-                flag,
-                Cursor {
-                    at,
+            Some(flag) => {
+                let next = Cursor {
+                    at: here.at,
                     state: State::Cluster,
-                },
-            ),
-            None => takes_rest(code, text, at),
+                };
+                Turn::Gives(flag, next)
+            }
+            None => takes_rest(code, here),
         },
-        None => skipped(text, at),
+        None => skipped(here),
     }
 }
 
 // The rest of the argument at a place is passed over.
-fn skipped<'a>(text: &'a [u8], at: usize) -> Turn<'a>
-    requires { at ≤ length text.now }
-    ensures { (o : Options) (w : ℕ) → weight text.now (record { at = place_behind 31 text.now at; state = State.Between }) < w → Tells o text.now w (first_from o free (args_behind text.now at)) result }
+fn skipped(here: Place<'_>) -> Turn<'_>
+    ensures { let text = here.entry.text.now in let at = here.entry.at in (o : Options) → TellsFrom o text (place_behind separator text at) (first_from o free (args_behind text at)) result }
 {
-    let (_, behind) = piece_at(text, SEPARATOR, at);
-    Turn::Passes(Cursor {
-        at: behind,
-        state: State::Between,
-    })
-}
-
-// So many bytes from a place on, or all that there are.
-fn part(text: &[u8], at: usize, most: usize) -> &[u8]
-    requires { at ≤ length text.now }
-    ensures { result.now ≡ take most (drop at text.now) }
-{
-    let count = most.min(text.len() - at);
-    &text[at..at + count]
+    Turn::Passes(Cursor::between(here.argument().behind.at))
 }
 
 // What is left of a list.
-fn list_turn<'a>(code: Code, left: usize, text: &'a [u8], at: usize) -> Turn<'a>
-    requires { at ≤ length text.now }
-    ensures { (o : Options) (w : ℕ) → weight text.now (record { at = at; state = State.List code left }) ≤ w → Tells o text.now w (first o (left_of (record { at = at; state = State.List code left }) text.now)) result }
+fn list_turn(code: Code, left: usize, here: Place<'_>) -> Turn<'_>
+    ensures { let text = here.entry.text.now in let at = here.entry.at in (o : Options) (w : ℕ) → weight_in (State.List code left) (length text - at) ≤ w → Tells o text w (first o (left_in (State.List code left) text at)) result }
 {
-    let list = part(text, at, left);
-    match make(code, list) {
-        Some((flag, place)) => {
-            if place < list.len() {
-                let rest = Cursor {
-                    at: at + place,
-                    state: State::List(code, list.len() - place),
-                };
-                Turn::Gives(flag, rest)
-            } else {
-                let end = Cursor {
-                    at: at + list.len(),
-                    state: State::Between,
-                };
-                Turn::Gives(flag, end)
-            }
-        }
-        None => Turn::Passes(Cursor {
-            at: at + list.len(),
-            state: State::Between,
-        }),
-    }
+    taken(code, here.part(left))
 }
 
 // An argument that begins with a dash.
-fn option_turn<'a, T: Table>(table: &T, text: &'a [u8], at: usize) -> Turn<'a>
-    requires { ByteAt text.now at 45 }
-    ensures { Tells (T.Table.means table.now) text.now (weight text.now (record { at = at; state = State.Between })) (first (T.Table.means table.now) (left_of (record { at = at; state = State.Between }) text.now)) result }
+fn option_turn<'a, T: Table>(table: &T, here: Place<'a>) -> Turn<'a>
+    requires { ByteAt here.text.now here.at dash }
+    ensures { let o = T.Table.means table.now in let text = here.entry.text.now in let at = here.entry.at in Tells o text (weight text (cursor_between at)) (first o (left_of (cursor_between at) text)) result }
 {
-    let (argument, behind) = piece_at(text, SEPARATOR, at);
-    let go_on = Cursor {
-        at: behind,
-        state: State::Between,
-    };
-    match shape_of(argument) {
-        Shape::Long(body) => long_turn(table, body, text, at + argument.len(), behind),
+    let argument = here.argument();
+    match shape_of(argument.bytes) {
+        Shape::Long(bytes) => long_turn(table, argument.last(bytes)),
         Shape::Short(_) => Turn::Passes(Cursor {
-            at: at + 1,
+            at: here.at + 1,
             state: State::Cluster,
         }),
         Shape::DoubleDash => Turn::Ends,
-        Shape::Empty => Turn::Passes(go_on),
-        Shape::Dash => Turn::Passes(go_on),
-        Shape::Plain => Turn::Passes(go_on),
+        Shape::Empty | Shape::Dash | Shape::Plain => {
+            Turn::Passes(Cursor::between(argument.behind.at))
+        }
     }
 }
 
-// One turn, by what is to be read and the byte there.
-pub(crate) fn one_turn<'a, T: Table>(table: &T, cursor: Cursor, text: &'a [u8]) -> Turn<'a>
-    requires { cursor.at ≤ length text.now }
-    ensures { Tells (T.Table.means table.now) text.now (weight text.now cursor) (first (T.Table.means table.now) (left_of cursor text.now)) result }
+// A turn at a place, by what is to be read and the byte there.
+fn turn_at<'a, T: Table>(table: &T, state: State, here: Place<'a>) -> Turn<'a>
+    ensures { let o = T.Table.means table.now in let text = here.entry.text.now in let at = here.entry.at in Tells o text (weight_in state (length text - at)) (first o (left_in state text at)) result }
 {
-    let at = cursor.at;
-    match (cursor.state, byte_at(text, at)) {
-        (State::Between, Some(b'-')) => option_turn(table, text, at),
-        (State::Between, Some(_)) => skipped(text, at),
-        (State::Cluster, Some(SEPARATOR)) => Turn::Passes(Cursor {
-            at: at + 1,
-            state: State::Between,
-        }),
-        (State::Cluster, Some(letter)) => letter_turn(table, letter, text, at + 1),
-        (State::List(code, left), _) => list_turn(code, left, text, at),
+    match (state, here.byte()) {
+        (State::Between, Some(b'-')) => option_turn(table, here),
+        (State::Between, Some(_)) => skipped(here),
+        (State::Cluster, Some(SEPARATOR)) => Turn::Passes(Cursor::between(here.at + 1)),
+        (State::Cluster, Some(letter)) => letter_turn(table, letter, here.next()),
+        (State::List(code, left), _) => list_turn(code, left, here),
         (State::Ended, _) => Turn::Ends,
         (_, None) => Turn::Ends,
     }
+}
+
+// A turn of a cursor. A place past the text is its end.
+pub(crate) fn one_turn<'a, T: Table>(table: &T, cursor: Cursor, text: &'a [u8]) -> Turn<'a>
+    ensures { let o = T.Table.means table.now in Tells o text.now (weight text.now cursor) (first o (left_of cursor text.now)) result }
+{
+    let here = Place {
+        text,
+        at: cursor.at.min(text.len()),
+    };
+    turn_at(table, cursor.state, here)
 }

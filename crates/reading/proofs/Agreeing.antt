@@ -7,7 +7,7 @@ use Rattle.flags.specs.declared.kinds.Code.{Code}
 use Rattle.tables.specs.Tables.{Options}
 use Rattle.text.specs.Cuts.{Halves, cut_first}
 use Rattle.text.specs.Shapes.{Form, form_of, empty, single, double, long, short, plain}
-use Rattle.reading.specs.Reading.{free, long_owed, short_owed, ended, Step, equipped as equipped-step, alone, taking_rest, before, cluster_step, free_step, reading, reading_from}
+use Rattle.reading.specs.Reading.{free, long_owed, short_owed, ended, Step, equipped as equipped-step, alone, taking_rest, before, cluster_step, long_step, free_step, reading, reading_from}
 use Rattle.reading.specs.Left.{Left, between, in_cluster, in_list, coming}
 use Rattle.reading.specs.Rules.{NoOption, is_empty, is_dash, is_plain, TakesOne, Bare, Named, Unequipped, Gives, at_the_end, stops, passes, unknown_name, unknown_named, bare_name, bare_equipped, equipped, takes_next, takes_empty, cluster, no_letter_left, unknown_letter, bare_letter, takes_rest, letter_takes_next, letter_lacks_one, words_left}
 
@@ -32,28 +32,31 @@ module _ (o : Options) where
 
     module _ (a body : Bytes) (e : form_of a ≡ long body) where
       of_alone : Unequipped body → (k : Option Code) → o.long body ≡ k → reading o (a ∷ args) ≡ from_step args (alone k)
-      of_alone u k e' = of_form a (long body) e ∙ ap (λ cut. from_step args (by_cut body cut)) u ∙ ap (λ x. from_step args (alone x)) e'
+      of_alone u k e' = of_form a (long body) e ∙ rw (u, long_step, e')
 
       of_equipped : (name arg : Bytes) → Named body name arg → (k : Option Code) → o.long name ≡ k → reading o (a ∷ args) ≡ from_step args (equipped-step k arg)
-      of_equipped name arg n k e' = of_form a (long body) e ∙ ap (λ cut. from_step args (by_cut body cut)) n ∙ ap (λ x. from_step args (equipped-step x arg)) e'
+      of_equipped name arg n k e' = of_form a (long body) e ∙ rw (n, long_step, e')
 
     of_letter : (b : ℕ) (bs : Bytes) (k : Option Code) → o.short b ≡ k → coming o (in_cluster (b ∷ bs) args) ≡ from_step args (by_letter k bs)
-    of_letter b bs k e = ap (λ x. from_step args (by_letter x bs)) e
+    of_letter b bs k e = rw (e, cluster_step)
 
     of_taking : (b : ℕ) (bs : Bytes) (c : Code) → o.short b ≡ Some c → TakesOne c → coming o (in_cluster (b ∷ bs) args) ≡ from_step args (taking_rest c bs)
-    of_taking b bs c e t = of_letter b bs (Some c) e ∙ ap (λ f. from_step args (elim f [ Some flag ↦ before flag (cluster_step o bs) | None ↦ taking_rest c bs ])) t
+    of_taking b bs c e t = of_letter b bs (Some c) e ∙ rw (t, by_letter)
+
+    bare_step : (c : Code) (bs : Bytes) (flag : Meaning) → Bare c flag → from_step args (by_letter (Some c) bs) ≡ from_step args (before flag (cluster_step o bs))
+    bare_step c bs flag e = rw (e, by_letter)
 
     alone_bare : (c : Code) (flag : Meaning) → Bare c flag → from_step args (alone (Some c)) ≡ flag ∷ reading o args
-    alone_bare c flag e = ap (λ f. from_step args (elim f [ Some m ↦ (m ∷ [], free) | None ↦ ([], long_owed c) ])) e
+    alone_bare c flag e = rw (e, alone)
 
     alone_owing : (c : Code) → TakesOne c → from_step args (alone (Some c)) ≡ reading_from o (long_owed c) args
-    alone_owing c e = ap (λ f. from_step args (elim f [ Some m ↦ (m ∷ [], free) | None ↦ ([], long_owed c) ])) e
+    alone_owing c e = rw (e, alone)
 
     equipped_bare : (c : Code) (flag : Meaning) (arg : Bytes) → Bare c flag → from_step args (equipped-step (Some c) arg) ≡ reading o args
-    equipped_bare c flag arg e = ap (λ f. from_step args (elim f [ Some m ↦ ([], free) | None ↦ (all_made c arg, free) ])) e
+    equipped_bare c flag arg e = rw (e, equipped-step)
 
     equipped_given : (c : Code) (arg : Bytes) → TakesOne c → from_step args (equipped-step (Some c) arg) ≡ all_made c arg ++ reading o args
-    equipped_given c arg e = ap (λ f. from_step args (elim f [ Some m ↦ ([], free) | None ↦ (all_made c arg, free) ])) e
+    equipped_given c arg e = rw (e, equipped-step)
 
   passed : (a : Bytes) (args : List Bytes) → NoOption a → reading o (a ∷ args) ≡ reading o args
   passed a args (is_empty e) = of_form args a empty e
@@ -76,7 +79,7 @@ module _ (o : Options) where
   gives_coming l flags (no_letter_left args fs g) = gives_coming (between args) fs g
   gives_coming l flags (unknown_letter b bs args fs k g) = of_letter args b bs None k ∙ gives_coming (between args) fs g
   gives_coming l flags (bare_letter b bs c flag args fs k e g) =
-      of_letter args b bs (Some c) k ∙ ap (λ f. from_step args (elim f [ Some m ↦ before m (cluster_step o bs) | None ↦ taking_rest c bs ])) e ∙ ap (λ x. flag ∷ x) (gives_coming (in_cluster bs args) fs g)
+      of_letter args b bs (Some c) k ∙ bare_step args c bs flag e ∙ ap (λ x. flag ∷ x) (gives_coming (in_cluster bs args) fs g)
   gives_coming l flags (takes_rest b x bs c args fs k t g) = of_taking args b (x ∷ bs) c k t ∙ ap (λ y. all_made c (x ∷ bs) ++ y) (gives_coming (between args) fs g)
   gives_coming l flags (letter_takes_next b c next args fs k t g) = of_taking (next ∷ args) b [] c k t ∙ ap (λ y. all_made c next ++ y) (gives_coming (between args) fs g)
   gives_coming l flags (letter_lacks_one b c k t) = of_taking [] b [] c k t

@@ -45,7 +45,7 @@ bytes_arguments (x ∷ xs) = bytes_pieces separator (x ∷ xs)
 -- no word is empty, so a list has no more words than bytes
 module _ {W : Type 0} (reads : Reads W) (nothing : reads [] ≡ None) where
   some_byte : (p : Bytes) (w : W) → reads p ≡ Some w → 0 < length p
-  some_byte [] w e = absurd (let z : ◌≡◌ {A = ℕ} 0 1 = cc in omega arith)
+  some_byte [] w e = cc
   some_byte (b ∷ bs) w e = omega arith
 
   word_by : (p : Bytes) (ps : List Bytes) → length (known_in reads ps) ≤ bytes_in ps → (o : Option W) → reads p ≡ o → length {A = W} (elim o [ Some w ↦ w ∷ known_in reads ps | None ↦ known_in reads ps ]) ≤ length p + bytes_in ps

@@ -4,23 +4,14 @@ ghost use Rattle.reading.specs.Counts.{AtMost};
 ghost use Rattle.reading.specs.Parts.{InParts};
 ghost use Rattle.reading.specs.Rules.{ByRules};
 
-// The bytes of a text are enough for its flags.
-fn enough_for(text: &[u8]) -> usize
-    ensures answer { result ≡ length text.now }
-    ensures enough { AtMost result text.now }
-    ensures parts { InParts }
-    ensures rules { ByRules }
-{
-    text.len()
-}
-
-// Room for so many flags is enough for a text, under any table.
+// The bytes of a text are enough for its flags, under any table.
 // Of the reading that this counts, `parts` says how it goes on from one argument to the next, and `rules` that it is what the rules give.
+#[tactic(auto, using(crate::proofs::Counting::at_most, crate::proofs::Parted::in_parts, crate::proofs::Parted::by_rules))]
 pub fn most_flags(text: &[u8]) -> usize
     ensures answer { result ≡ length text.now }
     ensures enough { AtMost result text.now }
     ensures parts { InParts }
     ensures rules { ByRules }
 {
-    enough_for(text)
+    text.len()
 }

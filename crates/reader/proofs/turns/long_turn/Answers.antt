@@ -1,20 +1,27 @@
-use Rattle.std.proofs.Common.{rules}
-use Rattle.text.specs.Cuts.{Halves}
-use Rattle.reading.specs.Left.{first_from}
+use Rattle.std.proofs.Common.{◌≡◌, Some, drop, ap, ◌∙◌, subst, rules}
+use Rattle.text.specs.Arguments.{pieces}
+use Rattle.text.specs.Cuts.{cut_first}
+use Rattle.reading.specs.Left.{behind as behind_of, first_from, first_alone}
+use Rattle.reader.specs.Turns.{TellsFrom}
 use Rattle.reader.proofs.Arguing.{argument_cut, cut_shorter}
 use Rattle.reader.proofs.Turning.{tells_by, long_equipped, long_alone}
 use Rattle.reader.proofs.turns.long_turn.Goals as goal
 
-pub equipped-requires : goal.equipped-requires
-equipped-requires g c = let shorter = cut_shorter 61 c.args.body.now (c.in-Some.name.now, c.in-Some.arg.now) (search rules) in search (rules, shorter)
+pub last-requires : goal.last-requires
+last-requires g c = cut_shorter 61 c.args.body.bytes.now (c.in-Some.name.now, c.in-Some.bytes.now) (search rules)
 
 pub returns-in-Some : goal.returns-in-Some
 returns-in-Some g c =
     let o = g.T.Table.means c.args.table.now in
-    let h : Halves = (c.in-Some.name.now, c.in-Some.arg.now) in
-    λ args w is less. tells_by o _ w _ _ _ (long_equipped args (λ t. first_from o t args) o c.args.body.now h (search rules)) (c.equipped.ensures args w (argument_cut _ c.args.body.now h 61 _ _ args (search rules) is) less)
+    let argument = c.last.result in
+    let cut : Some (c.in-Some.name.now, argument.bytes.now) ≡ cut_first 61 c.args.body.bytes.now = ap (λ l. Some (c.in-Some.name.now, l)) c.last.ensures.bytes ∙ c.in-Some.ensures.halves in
+    λ text args is w less. tells_by o text w _ _ _ (long_equipped args (λ t. first_from o t args) o c.args.body.bytes.now (c.in-Some.name.now, argument.bytes.now) cut) (c.equipped.ensures text args (argument_cut text c.args.body argument 61 c.in-Some.name.now args cut c.last.ensures.end c.last.ensures.behind is) w (search (rules, less, c.last.ensures.behind)))
 
 pub returns-in-None : goal.returns-in-None
 returns-in-None g c =
     let o = g.T.Table.means c.args.table.now in
-    λ args w is less. tells_by o _ w _ _ _ (long_alone args (λ t. first_from o t args) o c.args.body.now (search rules)) (c.alone.ensures args w is.later less)
+    let behind = c.args.body.behind in
+    λ text args is w less.
+    let same = is.part.same_text in
+    let here : pieces 31 (drop behind.at behind.text.now) ≡ behind_of args = ap (λ t. pieces 31 (drop behind.at t)) same ∙ is.later in
+    tells_by o text w _ _ _ (long_alone args (λ t. first_from o t args) o c.args.body.bytes.now (search rules)) (subst (λ t. TellsFrom o t behind.at (first_alone args (λ t'. first_from o t' args) (o.long c.args.body.bytes.now)) c.alone.result) same (c.alone.ensures args here) w less)

@@ -1,31 +1,5 @@
-use Rattle.std.proofs.Common.{arith, rules}
-use Rattle.reader.specs.declared.cursor.State.TheVariants.{Between, Cluster, List as InList}
-use Rattle.reader.proofs.Arguing.{place_later, place_bounds}
-use Rattle.reader.proofs.Shaped.{plain_first, letter_first}
-use Rattle.reader.proofs.Turning.{tells_by, in_state}
+use Rattle.reader.proofs.Clipping.{tells_clipped}
 use Rattle.reader.proofs.turns.one_turn.Goals as goal
 
-pub returns-in-Between-Some : goal.returns-in-Between-Some
-returns-in-Between-Some g c =
-    let o = g.T.Table.means c.args.table.now in
-    let text = c.args.text.now in
-    let at = c.args.cursor.at in
-    let later = place_later text at c.in-Between-Some.ensures.within in
-    let bounds = place_bounds text at (search rules) in
-    in_state o text _ c.args.cursor Between c.in-Between-Some.is-0
-    (tells_by o text _ _ _ _ (plain_first o text at c.in-Between-Some.field-0-1 c.in-Between-Some.ensures.here (search rules)) (c.skipped.ensures o _ (omega (arith, later, bounds.1))))
-
-pub returns-in-Cluster-Some : goal.returns-in-Cluster-Some
-returns-in-Cluster-Some g c =
-    let o = g.T.Table.means c.args.table.now in
-    let text = c.args.text.now in
-    let at = c.args.cursor.at in
-    let in' = c.in-Cluster-Some.ensures.within in
-    in_state o text _ c.args.cursor Cluster c.in-Cluster-Some.is-0
-    (tells_by o text _ _ _ _ (letter_first o text at c.in-Cluster-Some.letter c.in-Cluster-Some.ensures.here (search rules)) (c.letter_turn.ensures _ (omega (arith, in'))))
-
-pub returns-in-List-default : goal.returns-in-List-default
-returns-in-List-default g c =
-    let o = g.T.Table.means c.args.table.now in
-    let text = c.args.text.now in
-    in_state o text _ c.args.cursor (InList c.in-List-default.code c.in-List-default.left) c.in-List-default.is-0 (c.list_turn.ensures o _ (search rules))
+pub returns : goal.returns
+returns g c = tells_clipped (g.T.Table.means c.args.table.now) c.args.text.now c.args.cursor.state _ c.args.cursor.at _ c.min.ensures c.turn_at.ensures

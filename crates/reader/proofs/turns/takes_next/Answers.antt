@@ -1,6 +1,16 @@
-use Rattle.std.proofs.Common.{rules}
-use Rattle.reader.proofs.Turning.{taken_here}
+use Rattle.std.proofs.Common.{◌∙◌, sym, ap, arith}
+use Rattle.reading.specs.Reading.{free}
+use Rattle.reading.specs.Left.{first_from, first_taken}
+use Rattle.reader.specs.Cursors.{args_behind}
+use Rattle.reader.proofs.Arguing.{place_bounds}
+use Rattle.reader.proofs.Taking.{taken_at}
+use Rattle.reader.proofs.Turning.{tells_by}
 use Rattle.reader.proofs.turns.takes_next.Goals as goal
 
 pub returns : goal.returns
-returns c = λ o w less. taken_here o _ _ w c.args.code _ _ _ (search rules) (search rules) (search rules) less (λ args is less'. c.taken.ensures o args w is less')
+returns c =
+    let text = c.args.here.text.now in
+    let args = args_behind text c.args.here.at in
+    let is = c.argument.ensures.there in
+    let bounds = place_bounds text c.args.here.at c.args.here.within in
+    λ o w less. tells_by o _ w _ _ _ (ap (λ a. first_taken c.args.code a args (first_from o free args)) (sym c.argument.ensures.piece) ∙ taken_at o c.args.code text c.argument.result args is) (c.taken.ensures o text is.part w (omega (arith, bounds.0, c.argument.ensures.behind)))
