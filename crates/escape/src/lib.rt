@@ -1,12 +1,19 @@
 // Bytes for a person to read: printable ASCII as it is, and an escape for each other byte.
 #![tactic(auto)]
 
-ghost use Rattle.std.specs.Prelude.{◌<◌, Some};
+ghost use Rattle.std.specs.Prelude.{◌/◌, ◌%◌, ◌<◌, [], ◌∷◌, Some};
+ghost use Rattle.std.specs.Char.{digit_char};
 ghost use Rattle.std.specs.Fmt.{WritesOnOk};
 ghost use Rattle.std.specs.List.{flat_map};
 ghost use Rattle.escape.specs.Escaped.{escaped_byte, escaped, quoted};
 
 use std::fmt;
+
+fn write_hex<W: fmt::Write>(f: &mut fmt::Formatter<W>, byte: u8) -> fmt::Result
+    ensures { WritesOnOk W.write_str_gives f.old result (92 ∷ 120 ∷ digit_char (byte / 16) ∷ digit_char (byte % 16) ∷ []) f.new }
+{
+    write!(f, "\\x{byte:02x}")
+}
 
 fn write_byte<W: fmt::Write>(f: &mut fmt::Formatter<W>, mark: u8, byte: u8) -> fmt::Result
     requires { mark < 128 }
@@ -18,7 +25,7 @@ fn write_byte<W: fmt::Write>(f: &mut fmt::Formatter<W>, mark: u8, byte: u8) -> f
     } else if byte >= b' ' && byte <= b'~' {
         write!(f, "{shown}")
     } else {
-        write!(f, "\\x{byte:02x}")
+        write_hex(f, byte)
     }
 }
 
