@@ -1,5 +1,5 @@
 // The report, line by line.
-ghost use Rattle.std.specs.Prelude.{◌≡◌, IfOk, string_bytes};
+ghost use Rattle.std.specs.Prelude.{◌≡◌, ◌++◌, IfOk, OnOk, string_bytes};
 ghost use Rattle.utf8.specs.Utf8.{utf8};
 ghost use Rattle.text.specs.Shapes.{form};
 ghost use Rattle.explain.specs.Report.{shape_name, encoding_name, line, heading, accepted, refused, report};
@@ -32,14 +32,14 @@ fn encoding_of(argument: &[u8]) -> &'static str
     }
 }
 
-// One argument and its number.
-fn line(heap: Global, number: usize, argument: &[u8]) -> Result<String, AllocError>
-    ensures { IfOk result (λ s. string_bytes s ≡ line number argument.now) }
+// Adds the line of one argument.
+fn push_line(out: &mut String, number: usize, argument: &[u8]) -> Result<(), AllocError>
+    ensures { OnOk result (string_bytes out.new ≡ string_bytes out.old ++ line number argument.now) }
 {
     let bytes = Escaped(argument);
     let shape = name_of(shape_of(argument));
     let encoding = encoding_of(argument);
-    format!(in heap; "{number}: {bytes} ({shape}, {encoding})\n")
+    writeln!(out, "{number}: {bytes} ({shape}, {encoding})")
 }
 
 fn heading(heap: Global, text: &[u8]) -> Result<String, AllocError>
@@ -57,8 +57,7 @@ fn accepted(heap: Global, text: &[u8]) -> Result<String, AllocError>
     let mut at = 0;
     for i in 0..count(text) {
         let (argument, behind) = argument_at(text, at);
-        let line = line(heap, i + 1, argument)?;
-        out.push_str(line.as_str())?;
+        push_line(&mut out, i + 1, argument)?;
         at = behind;
     }
     Ok(out)

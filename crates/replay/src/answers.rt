@@ -78,6 +78,7 @@ fn push_first<'a>(
 // Adds the flags that an option gives of an argument.
 fn push_flags(out: &mut String, number: u8, argument: &[u8]) -> Result<(), AllocError> {
     let mut rest = argument;
+    // Each flag of a list takes a byte at least.
     for _ in 0..=argument.len() {
         let Some(behind) = push_first(out, number, rest)? else {
             break;
