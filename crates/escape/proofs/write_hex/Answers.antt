@@ -8,6 +8,6 @@ pub returns : goal.returns
 returns g c =
     let b = c.args.byte in
     let hex : styled_digits_output c.in_radix.result c.laid_out.result ≡ Some (digit_char (b / 16) ∷ digit_char (b % 16) ∷ []) =
-      rw (c.laid_out.ensures, c.in_radix.ensures, hex_byte false b c.ranges.byte.fits) in
+    rw (c.laid_out.ensures, c.in_radix.ensures, hex_byte false b c.ranges.byte.fits) in
     let written = rw hex at c.write.ensures.writes in
     search rules

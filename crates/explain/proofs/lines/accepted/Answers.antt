@@ -1,4 +1,4 @@
-use Rattle.std.proofs.Common.{◌<◌, ◌≤◌, ◌++◌, length, string_bytes, ap, ◌∙◌, arith}
+use Rattle.std.proofs.Common.{◌<◌, ◌≤◌, length, arith}
 use Rattle.text.specs.Arguments.{arguments}
 use Rattle.explain.proofs.Walk.{begun, done, one_more}
 use Rattle.explain.proofs.lines.accepted.Goals as goal
