@@ -1,9 +1,7 @@
-// The places of a byte and the cuts there.
+// What callers in Rust and C read of places and cuts: they know no Option, so a flag stands beside each value.
 ghost use Rattle.std.specs.Prelude.{◌≡◌};
+ghost use Rattle.std.specs.Option.{option_map};
 ghost use Rattle.bridge.specs.Places.{found, lengths};
-ghost use Rattle.text.specs.Cuts.{begins, ends, first_place, cut_first};
-
-use text::{ends_with, find, split_once, starts_with};
 
 // A place, if there is one.
 #[repr(C)]
@@ -11,6 +9,17 @@ use text::{ends_with, find, split_once, starts_with};
 pub struct Found {
     pub found: bool,
     pub place: usize,
+}
+
+impl From<Option<usize>> for Found {
+    ghost from_gives = { λ place it. it ≡ found place };
+
+    fn from(place: Option<usize>) -> Found {
+        Found {
+            found: place.is_some(),
+            place: place.unwrap_or(0),
+        }
+    }
 }
 
 // The lengths of two parts, if there are any.
@@ -22,45 +31,15 @@ pub struct Lengths {
     pub back: usize,
 }
 
-// The place of the first `byte`.
-pub fn hakechrome_find(bytes: &[u8], byte: u8) -> Found
-    ensures { result ≡ found (first_place byte bytes.now) }
-{
-    match find(bytes, byte) {
-        Some(place) => Found { found: true, place },
-        None => Found {
-            found: false,
-            place: 0,
-        },
-    }
-}
+impl From<Option<(&[u8], &[u8])>> for Lengths {
+    ghost from_gives = { λ parts it. it ≡ lengths (option_map (λ p. (p.0.now, p.1.now)) parts) };
 
-// How much stands before the first `byte`, and how much behind it.
-pub fn hakechrome_split_once(bytes: &[u8], byte: u8) -> Lengths
-    ensures { result ≡ lengths (cut_first byte bytes.now) }
-{
-    match split_once(bytes, byte) {
-        Some((front, back)) => Lengths {
-            found: true,
+    fn from(parts: Option<(&[u8], &[u8])>) -> Lengths {
+        let (front, back) = parts.unwrap_or((&[], &[]));
+        Lengths {
+            found: parts.is_some(),
             front: front.len(),
             back: back.len(),
-        },
-        None => Lengths {
-            found: false,
-            front: 0,
-            back: 0,
-        },
+        }
     }
-}
-
-pub fn hakechrome_starts_with(bytes: &[u8], byte: u8) -> bool
-    ensures { result ≡ begins byte bytes.now }
-{
-    starts_with(bytes, byte)
-}
-
-pub fn hakechrome_ends_with(bytes: &[u8], byte: u8) -> bool
-    ensures { result ≡ ends byte bytes.now }
-{
-    ends_with(bytes, byte)
 }

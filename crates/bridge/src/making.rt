@@ -1,17 +1,18 @@
 // Flags made by the number of an option's code, and written as lines.
-ghost use Rattle.std.specs.Prelude.{◌≡◌, IfOk, Some, string_bytes};
+ghost use Rattle.std.specs.Prelude.{◌≡◌, ◌++◌, length, drop, MatchOption};
 ghost use Rattle.std.specs.Option.{option_map};
-ghost use Rattle.bridge.specs.Answered.{made_by, no_flag, no_room, Put, Answered};
+ghost use Rattle.bridge.specs.Answered.{made_by, Answered};
 ghost use Rattle.flags.specs.Meaning.{meaning};
 ghost use Rattle.opt.specs.Opt.{placed};
 ghost use Rattle.show.specs.Shown.{shown};
 
 use construct::make;
 use flags::{Code, Flag};
-use show::show;
-use std::alloc::{AllocError, Global};
+use show::Shown;
+use std::alloc::Global;
 
-// What became of a call: status 0 is no flag, 1 a flag, and 2 that its line found no room or no memory.
+// What callers in Rust and C read of a call, by number: status 0 is no flag, 1 a flag, and 2 that its line found no
+// room or no memory.
 #[repr(C)]
 #[derive(Clone, Copy)]
 pub struct Answer {
@@ -20,64 +21,51 @@ pub struct Answer {
     pub place: usize,
 }
 
-pub(crate) fn no_flag() -> Answer
-    ensures { result ≡ no_flag }
-{
-    Answer {
-        status: 0,
-        length: 0,
-        place: 0,
-    }
-}
+const NO_FLAG: Answer = Answer {
+    status: 0,
+    length: 0,
+    place: 0,
+};
+
+const NO_ROOM: Answer = Answer {
+    status: 2,
+    length: 0,
+    place: 0,
+};
 
 // The first flag that the option with this number gives of an argument, and the place behind it; none where no option has the number.
 pub fn first_of(number: u8, argument: &[u8]) -> Option<(Flag<'_>, usize)>
     ensures { option_map placed result ≡ made_by number argument.now }
 {
-    match Code::from_number(number) {
-        Some(code) => make(code, argument),
-        None => None,
-    }
+    make(Code::from_number(number)?, argument)
 }
 
-fn line_of(heap: Global, flag: Flag<'_>) -> Result<String, AllocError>
-    ensures { IfOk result (λ s. string_bytes s ≡ shown (meaning flag.entry)) }
+// Puts the flag's line at the front of `line`, and says how long it is; none where it finds no room or no memory.
+fn put(heap: Global, flag: Flag<'_>, line: &mut [u8]) -> Option<usize>
+    ensures { MatchOption result (line.new ≡ line.old) (λ n. (n ≡ length (shown (meaning flag.entry))) × (line.new ≡ shown (meaning flag.entry) ++ drop n line.old)) }
 {
-    let mut line = String::new(heap);
-    show(flag, &mut line)?;
-    Ok(line)
-}
-
-fn put(bytes: &[u8], place: usize, line: &mut [u8]) -> Answer
-    ensures { Put bytes.now place result line.old line.new }
-{
-    let length = bytes.len();
+    let text = Shown(flag).to_string(heap).ok()?;
+    let length = text.len();
     if length > line.len() {
-        return no_room();
+        return None;
     }
-    line[..length].copy_from_slice(bytes);
-    Answer {
-        status: 1,
-        length,
-        place,
-    }
+    line[..length].copy_from_slice(text.as_bytes());
+    Some(length)
 }
 
-fn no_room() -> Answer
-    ensures { result ≡ no_room }
+// The first flag that the option with this number gives of the argument: its line goes to the front of `line`.
+pub fn make_line(heap: Global, number: u8, argument: &[u8], line: &mut [u8]) -> Answer
+    ensures { Answered (made_by number argument.now) result line.old line.new }
 {
-    Answer {
-        status: 2,
-        length: 0,
-        place: 0,
-    }
-}
-
-pub(crate) fn written(heap: Global, flag: Flag<'_>, place: usize, line: &mut [u8]) -> Answer
-    ensures { Answered (Some (meaning flag.entry, place)) result line.old line.new }
-{
-    match line_of(heap, flag) {
-        Ok(text) => put(text.as_bytes(), place, line),
-        Err(_) => no_room(),
+    let Some((flag, place)) = first_of(number, argument) else {
+        return NO_FLAG;
+    };
+    match put(heap, flag, line) {
+        Some(length) => Answer {
+            status: 1,
+            length,
+            place,
+        },
+        None => NO_ROOM,
     }
 }

@@ -1,4 +1,5 @@
-// The functions of `bridge`, exported to Rust and C under their names.
+// What the comparison calls, exported to Rust and C. An exported function stands in a static library, which no crate
+// can use, so the types and the making of flags are those of `bridge`.
 #![tactic(auto)]
 
 ghost use Rattle.std.specs.Prelude.{◌≡◌};
@@ -7,16 +8,20 @@ ghost use Rattle.text.specs.Cuts.{begins, ends, first_place, cut_first};
 ghost use Rattle.bridge.specs.Answered.{Answered, made_by};
 ghost use Rattle.bridge.specs.Places.{found, lengths};
 
-use bridge::{Answer, Found, Lengths};
+use bridge::{Answer, Found, Lengths, make_line};
 use std::alloc::Global;
+use text::{ends_with, find, split_once, starts_with};
+use utf8::is_utf8;
 
+// Whether the bytes are well-formed UTF-8.
 #[unsafe(no_mangle)]
 pub extern "C" fn hakechrome_is_utf8(bytes: &[u8]) -> bool
     ensures { result ≡ utf8 bytes.now }
 {
-    bridge::hakechrome_is_utf8(bytes)
+    is_utf8(bytes)
 }
 
+// The first flag that the option with this number gives of the argument: its line goes to the front of `line`.
 #[unsafe(no_mangle)]
 pub extern "C" fn hakechrome_make(
     heap: Global,
@@ -26,33 +31,35 @@ pub extern "C" fn hakechrome_make(
 ) -> Answer
     ensures { Answered (made_by number argument.now) result line.old line.new }
 {
-    bridge::hakechrome_make(heap, number, argument, line)
+    make_line(heap, number, argument, line)
 }
 
+// The place of the first `byte`.
 #[unsafe(no_mangle)]
 pub extern "C" fn hakechrome_find(bytes: &[u8], byte: u8) -> Found
     ensures { result ≡ found (first_place byte bytes.now) }
 {
-    bridge::hakechrome_find(bytes, byte)
+    find(bytes, byte).into()
 }
 
+// How much stands before the first `byte`, and how much behind it.
 #[unsafe(no_mangle)]
 pub extern "C" fn hakechrome_split_once(bytes: &[u8], byte: u8) -> Lengths
     ensures { result ≡ lengths (cut_first byte bytes.now) }
 {
-    bridge::hakechrome_split_once(bytes, byte)
+    split_once(bytes, byte).into()
 }
 
 #[unsafe(no_mangle)]
 pub extern "C" fn hakechrome_starts_with(bytes: &[u8], byte: u8) -> bool
     ensures { result ≡ begins byte bytes.now }
 {
-    bridge::hakechrome_starts_with(bytes, byte)
+    starts_with(bytes, byte)
 }
 
 #[unsafe(no_mangle)]
 pub extern "C" fn hakechrome_ends_with(bytes: &[u8], byte: u8) -> bool
     ensures { result ≡ ends byte bytes.now }
 {
-    bridge::hakechrome_ends_with(bytes, byte)
+    ends_with(bytes, byte)
 }

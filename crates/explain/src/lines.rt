@@ -1,10 +1,10 @@
 // The report, line by line.
-ghost use Rattle.std.specs.Prelude.{◌≡◌, ◌+◌, ◌<◌, [], ◌∷◌, ◌++◌, IfOk, string_bytes, OnOk};
-ghost use Rattle.std.specs.Char.{digit_char};
+ghost use Rattle.std.specs.Prelude.{◌≡◌, ◌++◌, IfOk, OnOk, string_bytes};
 ghost use Rattle.utf8.specs.Utf8.{utf8};
 ghost use Rattle.text.specs.Shapes.{form};
-ghost use Rattle.explain.specs.Report.{shown_byte, shown, shape_name, encoding_name, line as line_of, heading as headingOf, accepted as acceptedOf, refused as refusedOf, report};
+ghost use Rattle.explain.specs.Report.{shape_name, encoding_name, line, heading, accepted, refused, report};
 
+use escape::Escaped;
 use std::alloc::{AllocError, Global};
 use text::{Refusal, Shape, argument_at, check_text, count, shape_of};
 use utf8::is_utf8;
@@ -32,62 +32,18 @@ fn encoding_of(argument: &[u8]) -> &'static str
     }
 }
 
-fn hex_digit(n: u8) -> char
-    requires { n < 16 }
-    ensures { result ≡ digit_char n }
+// Adds the line of one argument.
+fn push_line(out: &mut String, number: usize, argument: &[u8]) -> Result<(), AllocError>
+    ensures { OnOk result (string_bytes out.new ≡ string_bytes out.old ++ line number argument.now) }
 {
-    if n < 10 {
-        char::from(48 + n)
-    } else {
-        char::from(87 + n)
-    }
-}
-
-fn push_escape(out: &mut String, high: char, low: char) -> Result<(), AllocError>
-    requires { (high < 128) × (low < 128) }
-    ensures { OnOk result (string_bytes out.new ≡ string_bytes out.old ++ (92 ∷ 120 ∷ high ∷ low ∷ [])) }
-{
-    out.push_str("\\x")?;
-    out.push(high)?;
-    out.push(low)?;
-    Ok(())
-}
-
-// Adds a byte as it is shown.
-fn push_byte(out: &mut String, byte: u8) -> Result<(), AllocError>
-    ensures { OnOk result (string_bytes out.new ≡ string_bytes out.old ++ shown_byte byte) }
-{
-    if byte == b'\\' {
-        return out.push_str("\\\\");
-    }
-    if byte >= b' ' && byte <= b'~' {
-        return out.push(char::from(byte));
-    }
-    push_escape(out, hex_digit(byte / 16), hex_digit(byte % 16))
-}
-
-fn shown_bytes(heap: Global, bytes: &[u8]) -> Result<String, AllocError>
-    ensures { IfOk result (λ s. string_bytes s ≡ shown bytes.now) }
-{
-    let mut out = String::new(heap);
-    for b in bytes {
-        push_byte(&mut out, *b)?;
-    }
-    Ok(out)
-}
-
-// One argument and its number.
-fn line(heap: Global, number: usize, argument: &[u8]) -> Result<String, AllocError>
-    ensures { IfOk result (λ s. string_bytes s ≡ line_of number argument.now) }
-{
-    let bytes = shown_bytes(heap, argument)?;
+    let bytes = Escaped(argument);
     let shape = name_of(shape_of(argument));
     let encoding = encoding_of(argument);
-    format!(in heap; "{number}: {bytes} ({shape}, {encoding})\n")
+    writeln!(out, "{number}: {bytes} ({shape}, {encoding})")
 }
 
 fn heading(heap: Global, text: &[u8]) -> Result<String, AllocError>
-    ensures { IfOk result (λ s. string_bytes s ≡ headingOf text.now) }
+    ensures { IfOk result (λ s. string_bytes s ≡ heading text.now) }
 {
     let bytes = text.len();
     let arguments = count(text);
@@ -95,21 +51,20 @@ fn heading(heap: Global, text: &[u8]) -> Result<String, AllocError>
 }
 
 fn accepted(heap: Global, text: &[u8]) -> Result<String, AllocError>
-    ensures { IfOk result (λ s. string_bytes s ≡ acceptedOf text.now) }
+    ensures { IfOk result (λ s. string_bytes s ≡ accepted text.now) }
 {
     let mut out = heading(heap, text)?;
     let mut at = 0;
     for i in 0..count(text) {
         let (argument, behind) = argument_at(text, at);
-        let line = line(heap, i + 1, argument)?;
-        out.push_str(line.as_str())?;
+        push_line(&mut out, i + 1, argument)?;
         at = behind;
     }
     Ok(out)
 }
 
 fn refused(heap: Global, refusal: Refusal) -> Result<String, AllocError>
-    ensures { IfOk result (λ s. string_bytes s ≡ refusedOf refusal) }
+    ensures { IfOk result (λ s. string_bytes s ≡ refused refusal) }
 {
     let number = refusal.number();
     format!(in heap; "refused {number}: a text has at most 65,535 bytes\n")

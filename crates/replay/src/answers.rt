@@ -10,6 +10,20 @@ use flags::Kind;
 use show::show;
 use std::alloc::{AllocError, Global};
 
+// Why a line could not be read.
+#[derive(Clone, Copy)]
+enum Fault {
+    NoMemory,
+    NotOfTheForm,
+}
+
+impl From<AllocError> for Fault {
+    fn from(_: AllocError) -> Fault {
+        Fault::NoMemory
+    }
+}
+
+// Not `to_digit`, which takes capitals too: the sample has none, and a line with one is unreadable.
 fn value_of(digit: u8) -> Option<u8>
     ensures value { elim result [ Some n ↦ digit ≡ digit_char n | None ↦ Unit {0} ] }
     ensures bound { elim result [ Some n ↦ n < 16 | None ↦ Unit {0} ] }
@@ -25,52 +39,48 @@ fn byte_of(digits: &[u8]) -> Option<u8> {
     let &[high, low] = digits else {
         return None;
     };
-    let (Some(high), Some(low)) = (value_of(high), value_of(low)) else {
-        return None;
-    };
-    Some(high * 16 + low)
+    Some(value_of(high)? * 16 + value_of(low)?)
 }
 
-fn bytes_of(heap: Global, digits: &[u8]) -> Result<Option<Vec<u8>>, AllocError> {
-    let mut bytes = Vec::new(heap);
-    for pair in digits.chunks(2) {
-        let Some(byte) = byte_of(pair) else {
-            return Ok(None);
-        };
-        bytes.push(byte)?;
-    }
-    Ok(Some(bytes))
+fn bytes_of(heap: Global, digits: &[u8]) -> Result<Vec<u8>, Fault> {
+    digits
+        .chunks(2)
+        .map(|pair| byte_of(pair).ok_or(Fault::NotOfTheForm))
+        .try_collect(heap)
 }
 
-// Adds the first flag that an option gives of an argument. The answer is the place behind it where there may be more.
-fn push_first(out: &mut String, number: u8, argument: &[u8]) -> Result<Option<usize>, AllocError>
+// The number and the argument of a line.
+fn read_line(heap: Global, line: &str) -> Result<(u8, Vec<u8>), Fault> {
+    let (number, digits) = line.split_once(' ').ok_or(Fault::NotOfTheForm)?;
+    let number = number.parse().or(Err(Fault::NotOfTheForm))?;
+    Ok((number, bytes_of(heap, digits.as_bytes())?))
+}
+
+// Adds the first flag that an option gives of an argument, and gives the bytes behind it where flags of its kind come in
+// lists.
+fn push_first<'a>(
+    out: &mut String,
+    number: u8,
+    argument: &'a [u8],
+) -> Result<Option<&'a [u8]>, AllocError>
     ensures { OnOk result (elim (made_by number argument.now) [ Some p ↦ string_bytes out.new ≡ string_bytes out.old ++ shown p.0 | None ↦ out.new ≡ out.old ]) }
 {
-    match first_of(number, argument) {
-        Some((flag, place)) => {
-            show(flag, out)?;
-            Ok(more_behind(flag.kind(), place))
-        }
-        None => Ok(None),
-    }
-}
-
-// The place, where flags of the kind come in lists.
-fn more_behind(kind: Kind, place: usize) -> Option<usize> {
-    match kind {
-        Kind::CrateType | Kind::Emit => Some(place),
-        _ => None,
+    let Some((flag, place)) = first_of(number, argument) else {
+        return Ok(None);
+    };
+    show(flag, out)?;
+    match flag.kind() {
+        Kind::CrateType | Kind::Emit => Ok(argument.get(place..)),
+        _ => Ok(None),
     }
 }
 
 // Adds the flags that an option gives of an argument.
 fn push_flags(out: &mut String, number: u8, argument: &[u8]) -> Result<(), AllocError> {
     let mut rest = argument;
+    // Each flag of a list takes a byte at least.
     for _ in 0..=argument.len() {
-        let Some(place) = push_first(out, number, rest)? else {
-            break;
-        };
-        let Some(behind) = rest.get(place..) else {
+        let Some(behind) = push_first(out, number, rest)? else {
             break;
         };
         if first_of(number, behind).is_none() {
@@ -83,14 +93,10 @@ fn push_flags(out: &mut String, number: u8, argument: &[u8]) -> Result<(), Alloc
 }
 
 fn push_answer(heap: Global, out: &mut String, line: &str) -> Result<(), AllocError> {
-    let Some((number, digits)) = line.split_once(' ') else {
-        return out.push_str("unreadable");
-    };
-    let Ok(number) = number.parse::<u8>() else {
-        return out.push_str("unreadable");
-    };
-    let Some(argument) = bytes_of(heap, digits.as_bytes())? else {
-        return out.push_str("unreadable");
+    let (number, argument) = match read_line(heap, line) {
+        Ok(read) => read,
+        Err(Fault::NotOfTheForm) => return out.push_str("unreadable"),
+        Err(Fault::NoMemory) => return Err(AllocError),
     };
     if first_of(number, argument.as_slice()).is_none() {
         return out.push_str("none");

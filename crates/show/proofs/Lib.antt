@@ -1,1 +1,1 @@
-mod Further
+mod Separated

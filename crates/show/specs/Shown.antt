@@ -46,9 +46,12 @@ kind_name kind.RemapPathPrefix = codes "RemapPathPrefix"
 abbrev pub text : Bytes → Bytes
 text bs = codes " " ++ quoted bs
 
+abbrev pub quoted_or_dash : Option Bytes → Bytes
+quoted_or_dash (Some bs) = quoted bs
+quoted_or_dash None = codes "-"
+
 abbrev pub text_or_dash : Option Bytes → Bytes
-text_or_dash (Some bs) = text bs
-text_or_dash None = codes " -"
+text_or_dash bs = codes " " ++ quoted_or_dash bs
 
 -- a word stands as it is spelled; no spelling holds a byte with an escape
 abbrev pub spelled : Bytes → Bytes

@@ -4,20 +4,31 @@
 mod fields;
 mod names;
 
-ghost use Rattle.std.specs.Prelude.{◌≡◌, ◌++◌, string_bytes, OnOk};
+ghost use Rattle.std.specs.Prelude.{◌≡◌, ◌++◌, Some, string_bytes, OnOk};
 ghost use Rattle.flags.specs.Meaning.{meaning};
 ghost use Rattle.show.specs.Shown.{shown};
 
-use fields::push_fields;
+use fields::Fields;
 use flags::Flag;
 use names::name_of;
 use std::alloc::AllocError;
+use std::fmt;
+
+// Prints the flag's line, without an end of line.
+#[derive(Clone, Copy)]
+pub struct Shown<'a>(pub Flag<'a>);
+
+impl fmt::Display for Shown<'_> {
+    ghost output = { λ it. Some (shown (meaning it.0)) };
+
+    fn fmt<W: fmt::Write>(&self, f: &mut fmt::Formatter<W>) -> fmt::Result {
+        write!(f, "{}{}", name_of(self.0.kind()), Fields(self.0))
+    }
+}
 
 // Adds the flag's line, without an end of line.
 pub fn show(flag: Flag<'_>, out: &mut String) -> Result<(), AllocError>
     ensures { OnOk result (string_bytes out.new ≡ string_bytes out.old ++ shown (meaning flag.entry)) }
 {
-    out.push_str(name_of(flag.kind()))?;
-    push_fields(out, flag)?;
-    Ok(())
+    write!(out, "{}", Shown(flag))
 }

@@ -1,4 +1,4 @@
-// The names of the kinds.
+// The names of the kinds: a derived Debug prints them too, but no clause knows what it prints.
 ghost use Rattle.std.specs.Prelude.{◌≡◌};
 ghost use Rattle.show.specs.Shown.{kind_name};
 

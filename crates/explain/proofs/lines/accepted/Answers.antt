@@ -1,4 +1,4 @@
-use Rattle.std.proofs.Common.{◌<◌, ◌≤◌, ◌++◌, length, string_bytes, ap, ◌∙◌, arith}
+use Rattle.std.proofs.Common.{◌<◌, ◌≤◌, length, arith}
 use Rattle.text.specs.Arguments.{arguments}
 use Rattle.explain.proofs.Walk.{begun, done, one_more}
 use Rattle.explain.proofs.lines.accepted.Goals as goal
@@ -10,8 +10,7 @@ pub loop-i-preserved : goal.loop-i-preserved
 loop-i-preserved c =
     let in' : c.loop-i.i < length (arguments c.args.text.now) = omega (arith, c.count-i-end.ensures.answer) in
     let told = c.argument_at-behind.ensures in
-    one_more _ _ _ _ in' c.loop-i.invariant told.argument told.behind
-    (c.in_ok-push_str.ensures.bytes ∙ ap (λ l. string_bytes c.loop-i.out ++ l) (c.as_str.ensures.value ∙ c.in_ok-line.ensures))
+    one_more _ _ _ _ in' c.loop-i.invariant told.argument told.behind c.in_ok-push_line.ensures
 
 pub returns : goal.returns
 returns c =
