@@ -37,7 +37,7 @@ const NO_ROOM: Answer = Answer {
 pub fn first_of(number: u8, argument: &[u8]) -> Option<(Flag<'_>, usize)>
     ensures { option_map placed result ≡ made_by number argument.now }
 {
-    make(Code::from_number(number)?, argument)
+    make(Code::try_from(number).ok()?, argument)
 }
 
 // Puts the flag's line at the front of `line`, and says how long it is; none where it finds no room or no memory.

@@ -6,7 +6,7 @@ ghost use Rattle.explain.specs.Report.{shape_name, encoding_name, line, heading,
 
 use escape::Escaped;
 use std::alloc::{AllocError, Global};
-use text::{Refusal, Shape, argument_at, check_text, count, shape_of};
+use text::{Refusal, Shape, arguments_of, check_text, count, shape_of};
 use utf8::is_utf8;
 
 fn name_of(shape: Shape<'_>) -> &'static str
@@ -54,11 +54,8 @@ fn accepted(heap: Global, text: &[u8]) -> Result<String, AllocError>
     ensures { IfOk result (λ s. string_bytes s ≡ accepted text.now) }
 {
     let mut out = heading(heap, text)?;
-    let mut at = 0;
-    for i in 0..count(text) {
-        let (argument, behind) = argument_at(text, at);
+    for (i, argument) in arguments_of(text).enumerate() {
         push_line(&mut out, i + 1, argument)?;
-        at = behind;
     }
     Ok(out)
 }

@@ -5,9 +5,9 @@ ghost use Rattle.flags.specs.Meaning.{meaning, known_modifiers};
 ghost use Rattle.show.specs.Shown.{quoted_or_dash, modifiers, fields};
 
 use escape::{Escaped, Quoted};
-use flags::Flag;
+use flags::{Flag, ModifierList};
 use std::fmt;
-use words::{Modifier, WordSet, next_word};
+use words::{Modifier, WordSet, known_words};
 
 // Prints a text in quotes, and a dash for one that is missing.
 #[derive(Clone, Copy)]
@@ -26,18 +26,16 @@ impl fmt::Display for OrDash<'_> {
 
 // Prints the known modifiers of a list, commas between them.
 #[derive(Clone, Copy)]
-struct Modifiers<'a>(&'a [u8]);
+struct Modifiers<'a>(ModifierList<'a>);
 
 impl fmt::Display for Modifiers<'_> {
-    ghost output = { λ it. Some (modifiers (known_modifiers it.0.now)) };
+    ghost output = { λ it. Some (modifiers (known_modifiers it.0.text.now)) };
 
     fn fmt<W: fmt::Write>(&self, f: &mut fmt::Formatter<W>) -> fmt::Result {
-        let mut rest = self.0;
         let mut separator = "";
-        while let Some((modifier, behind)) = next_word::<Modifier>(rest) {
+        for modifier in known_words::<Modifier>(self.0.text) {
             write!(f, "{separator}{}", Escaped(modifier.spelling()))?;
             separator = ",";
-            rest = rest.split_at(behind).1;
         }
         Ok(())
     }

@@ -1,6 +1,8 @@
-use Rattle.std.proofs.Common.{string_bytes}
-use Rattle.explain.proofs.Walk.{Sofar}
+use Rattle.std.proofs.Common.{◌≡◌, ◌+◌, ◌++◌, string_bytes}
+use Rattle.text.specs.Arguments.{left}
+use Rattle.explain.specs.Report.{lines, accepted}
 use Rattle.explain.proofs.lines.accepted.Given as goal
 
+-- what is written, and the lines of the arguments that are left
 abbrev pub invariant-loop-i : goal.invariant-loop-i
-invariant-loop-i l = Sofar l.text (string_bytes l.out) l.i l.at
+invariant-loop-i l = string_bytes l.out ++ lines (l.i-iterator.count + 1) (left l.i-iterator.iter) ≡ accepted l.text

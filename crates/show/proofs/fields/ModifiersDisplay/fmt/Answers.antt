@@ -8,5 +8,5 @@ loop-modifier-preserved g c = (
   search rules,
   λ plain.
       let so_far = c.loop-modifier.invariant.1 plain in
-      (_, has_written_append _ _ _ _ _ _ so_far.1 (c.in_ok-write.ensures.writes so_far.1.plain refl), one_more so_far.0 c.loop-modifier.separator.now c.loop-modifier.rest.now _ _ c.in-Some.modifier c.in-Some.behind c.in-Some.ensures.whole c.split_at.ensures.back c.spelling.ensures so_far.2),
+      (_, has_written_append _ _ _ _ _ _ so_far.1 (c.in_ok-write.ensures.writes so_far.1.plain refl), one_more so_far.0 c.loop-modifier.separator.now _ c.in-Some.modifier _ _ (search rules) c.spelling.ensures so_far.2),
 )

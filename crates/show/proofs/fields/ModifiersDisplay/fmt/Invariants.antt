@@ -1,4 +1,4 @@
-use Rattle.std.proofs.Common.{◌≡◌, ◌++◌, length}
+use Rattle.std.proofs.Common.{◌≡◌, ◌++◌}
 use Rattle.std.specs.Fmt.{HasWritten, IsPlainFormatter}
 use denote.Shadow.{shadow}
 use denote.Text.{Utf8}
@@ -11,7 +11,4 @@ use Rattle.show.proofs.fields.ModifiersDisplay.fmt.Given as goal
 abbrev pub invariant-loop-modifier : goal.invariant-loop-modifier
 invariant-loop-modifier g l =
     shadow (Utf8 l.separator)
-    × (IsPlainFormatter l.initial.f → (bs : Bytes) × HasWritten g.W.Write.write_str_gives l.initial.f bs l.f × (bs ++ left l.separator (known_modifiers l.rest) ≡ modifiers (known_modifiers l.self.0.now)))
-
-abbrev pub decreases-loop-modifier : goal.decreases-loop-modifier
-decreases-loop-modifier g l = length l.rest
+    × (IsPlainFormatter l.initial.f → (bs : Bytes) × HasWritten g.W.Write.write_str_gives l.initial.f bs l.f × (bs ++ left l.separator (known_modifiers l.modifier-iterator.rest.now) ≡ modifiers (known_modifiers l.self.0.text.now)))
