@@ -1,6 +1,6 @@
 -- What a sink for letters answers to a byte too many. Assumes nothing.
 use Rattle.std.proofs.Common.{◌≡◌, ℕ, ◌+◌, ◌<◌, List, [], ◌∷◌, length, Some, None, Option, refl, arith}
-use Rattle.std.specs.Option.{option_map, option_to_list}
+use Rattle.std.specs.Option.{option_to_list}
 use Rattle.text.specs.declared.refusals.Refusal.TheVariants.{CannotCarry}
 use Rattle.sinks.specs.Sinks.{write_told}
 use Rattle.strangers.specs.Letters.{rules_at}
