@@ -82,25 +82,34 @@ module _ (s : Sheet) where
       ∙ ap (filled_rows (length pairs)) (sym (row.places-cut_up 0 rows s.finished text chain text_spans))
 
   -- the argument of a row
-  module _ (n : ℕ) (p : ℕ × ℕ) (in' : n < length rows) (is : p ≡ get_or rows n p) where
+  module _ (n : ℕ) (d : ℕ × ℕ) (in' : n < s.count) where
+    abbrev p : ℕ × ℕ
+    p = get_or pairs n d
+
+    in_rows : n < length rows
+    in_rows = omega (arith, rows_long)
+
+    read : get_or rows n d ≡ p
+    read = get_or-take s.count pairs n d in'
+
     pub row_end : p.0 + p.1 ≤ s.finished
-    row_end = subst (λ (q : ℕ × ℕ). q.0 + q.1 ≤ s.finished) (sym is) (row.chained_end 0 rows s.finished n p chain in')
+    row_end = subst (λ (q : ℕ × ℕ). q.0 + q.1 ≤ s.finished) read (row.chained_end 0 rows s.finished n d chain in_rows)
 
     pub argument_is : slice_get (held s).list n ≡ Some (take p.1 (drop p.0 bytes))
     argument_is =
         let sum : s.finished ≡ p.0 + (s.finished - p.0) = omega (arith, row_end) in
         let same : take p.1 (drop p.0 text) ≡ take p.1 (drop p.0 bytes) = ap (λ m. take p.1 (drop p.0 (take m bytes))) sum ∙ ap (take p.1) (drop-take p.0 (s.finished - p.0) bytes) ∙ take-take p.1 (s.finished - p.0) (drop p.0 bytes) (omega (arith, row_end)) in
-        row.nth-cut_up 0 rows s.finished n text p chain in' ∙ ap (λ (q : ℕ × ℕ). Some (take q.1 (drop (q.0 - 0) text))) (sym is)
+        row.nth-cut_up 0 rows s.finished n text d chain in_rows ∙ ap (λ (q : ℕ × ℕ). Some (take q.1 (drop (q.0 - 0) text))) read
         ∙ ap (λ m. Some (take p.1 (drop m text))) (sub-zero p.0) ∙ ap Some same
 
     row_lined : Chained 0 (take n rows) p.0
-    row_lined = subst (λ (q : ℕ × ℕ). Chained 0 (take n rows) q.0) (sym is) (row.chained_take 0 rows s.finished n p chain in')
+    row_lined = subst (λ (q : ℕ × ℕ). Chained 0 (take n rows) q.0) read (row.chained_take 0 rows s.finished n d chain in_rows)
 
     row_list : cut_up (take n rows) (take p.0 text) ≡ take n (held s).list
-    row_list = ap (λ m. cut_up (take n rows) (take m text)) (sym (sub-zero p.0)) ∙ ap (λ (q : ℕ × ℕ). cut_up (take n rows) (take (q.0 - 0) text)) is ∙ row.take-cut_up 0 rows s.finished n text p chain in'
+    row_list = ap (λ m. cut_up (take n rows) (take m text)) (sym (sub-zero p.0)) ∙ ap (λ (q : ℕ × ℕ). cut_up (take n rows) (take (q.0 - 0) text)) (sym read) ∙ row.take-cut_up 0 rows s.finished n text d chain in_rows
 
-  pub no_argument : (n : ℕ) → length rows ≤ n → slice_get (held s).list n ≡ None
-  no_argument n past = slice_get_past (held s).list n (omega (arith, number_is, rows_long))
+  pub no_argument : (n : ℕ) → s.count ≤ n → None ≡ slice_get (held s).list n
+  no_argument n past = sym (slice_get_past (held s).list n (omega (arith, number_is)))
 
   -- a part of the buffer is written
   module _ (from k : ℕ) (ys : List ℕ) (fit : from + k ≤ s.limit) (same : length ys ≡ length (take k (drop from bytes))) where
@@ -156,52 +165,44 @@ module _ (s : Sheet) where
         (row.clear_more s.limit s.finished k bytes ys (omega (arith, s.within, open_end)) limit_fits.0 same 0 used (omega (arith, open_end)) is s.zeros)
 
     -- the open argument gets its row
-    abbrev sealed : List (ℕ × ℕ)
-    sealed = set pairs s.count (s.finished, n)
+    module _ (p : ℕ × ℕ) (is : p ≡ (s.finished, n)) where
+      abbrev sealed : List (ℕ × ℕ)
+      sealed = set pairs s.count p
 
-    has_row : s.count < length pairs
-    has_row = s.row (ap is_some open')
+      has_row : s.count < length pairs
+      has_row = s.row (ap is_some open')
 
-    sealed_long : length sealed ≡ length pairs
-    sealed_long = length-set pairs s.count (s.finished, n)
+      sealed_long : length sealed ≡ length pairs
+      sealed_long = length-set pairs s.count p
 
-    pub seal_few : s.count + 1 ≤ length sealed
-    seal_few = omega (arith, sealed_long, has_row)
+      pub seal_few : s.count + 1 ≤ length sealed
+      seal_few = omega (arith, sealed_long, has_row)
 
-    pub seal_zeros : ClearFrom 0 s.limit (s.finished + n + 0) bytes
-    seal_zeros = subst (λ m. ClearFrom 0 s.limit m bytes) (open_end ∙ sym (add-zero (s.finished + n))) s.zeros
+      pub seal_zeros : ClearFrom 0 s.limit (s.finished + n + 0) bytes
+      seal_zeros = subst (λ m. ClearFrom 0 s.limit m bytes) (open_end ∙ sym (add-zero (s.finished + n))) s.zeros
 
-    pub seal_blank : ClearFrom (0, 0) (length sealed) (s.count + 1) sealed
-    seal_blank =
-        let same : drop (s.count + 1) sealed ≡ drop (s.count + 1) pairs = drop-set-lt (s.count + 1) pairs s.count (s.finished, n) (omega arith) in
-        same ∙ row.clear_later (0, 0) (length pairs) s.count 1 pairs (omega (arith, has_row)) s.blank
-        ∙ (λ i. replicate (sym sealed_long i - (s.count + 1)) (0, 0) ++ (drop_all (length pairs) pairs (omega arith) ∙ sym (drop_all (length sealed) sealed (omega arith))) i)
+      pub seal_blank : ClearFrom (0, 0) (length sealed) (s.count + 1) sealed
+      seal_blank =
+          let same : drop (s.count + 1) sealed ≡ drop (s.count + 1) pairs = drop-set-lt (s.count + 1) pairs s.count p (omega arith) in
+          same ∙ row.clear_later (0, 0) (length pairs) s.count 1 pairs (omega (arith, has_row)) s.blank
+          ∙ (λ i. replicate (sym sealed_long i - (s.count + 1)) (0, 0) ++ (drop_all (length pairs) pairs (omega arith) ∙ sym (drop_all (length sealed) sealed (omega arith))) i)
 
-    rows_more : take (s.count + 1) sealed ≡ rows ++ (s.finished, n) ∷ []
-    rows_more = take_more_set pairs s.count (s.finished, n) has_row
+      rows_more : take (s.count + 1) sealed ≡ rows ++ (s.finished, n) ∷ []
+      rows_more = take_more_set pairs s.count p has_row ∙ ap (λ q. rows ++ q ∷ []) is
 
-    pub seal_lined : chained 0 (take (s.count + 1) sealed) (s.finished + n) ≡ true
-    seal_lined = row.chained_to 0 (take (s.count + 1) sealed) (s.finished + n) (subst (λ l. Chained 0 l (s.finished + n)) (sym rows_more) (row.chained_push 0 rows s.finished n chain))
+      pub seal_lined : chained 0 (take (s.count + 1) sealed) (s.finished + n) ≡ true
+      seal_lined = row.chained_to 0 (take (s.count + 1) sealed) (s.finished + n) (subst (λ l. Chained 0 l (s.finished + n)) (sym rows_more) (row.chained_push 0 rows s.finished n chain))
 
-    pub seal_holds : record { list = cut_up (take (s.count + 1) sealed) (take (s.finished + n) bytes); pending = None } ≡ finished None (held s)
-    seal_holds =
-        ap (λ l. record { list = l; pending = None })
-        ((λ i. cut_up (rows_more i) (sym (both n) i)) ∙ row.cut_up_push 0 rows s.finished n text (tail n) chain text_spans tail_long)
-        ∙ sym (ap (λ o. finished None (at o)) open')
+      pub seal_holds : record { list = cut_up (take (s.count + 1) sealed) (take (s.finished + n) bytes); pending = None } ≡ finished None (held s)
+      seal_holds =
+          ap (λ l. record { list = l; pending = None })
+          ((λ i. cut_up (rows_more i) (sym (both n) i)) ∙ row.cut_up_push 0 rows s.finished n text (tail n) chain text_spans tail_long)
+          ∙ sym (ap (λ o. finished None (at o)) open')
 
   -- all but the first n arguments are dropped
   module _ (shut : s.pending ≡ None) (n end : ℕ) (d : ℕ × ℕ) (in' : n < s.count) (is : end ≡ (get_or pairs n d).0) where
-    abbrev p : ℕ × ℕ
-    p = get_or pairs n d
-
-    in_rows : n < length rows
-    in_rows = omega (arith, rows_long)
-
-    read : p ≡ get_or rows n p
-    read = get_or_default pairs n d p (omega (arith, s.few)) ∙ sym (get_or-take s.count pairs n p in')
-
     pub cut_end : end ≤ s.finished
-    cut_end = omega (arith, is, row_end n p in_rows read)
+    cut_end = omega (arith, is, row_end n d in')
 
     shut_at : (place : ℕ) → place + unwrap_or s.pending 0 ≡ place
     shut_at place = ap (λ o. place + unwrap_or o 0) shut ∙ add-zero place
@@ -247,12 +248,12 @@ module _ (s : Sheet) where
         same_rows = take-put_mid_below n (s.count - n) pairs zs n (omega arith) (omega (arith, s.few)) ∙ sym (take-take n s.count pairs (omega arith))
 
         pub cut_lined : chained 0 (take n kept) end ≡ true
-        cut_lined = (λ i. chained 0 (same_rows i) (is i)) ∙ row.chained_to 0 (take n rows) p.0 (row_lined n p in_rows read)
+        cut_lined = (λ i. chained 0 (same_rows i) (is i)) ∙ row.chained_to 0 (take n rows) (get_or pairs n d).0 (row_lined n d in')
 
         pub cut_holds : ◌≡◌ {A = Held} (record { list = cut_up (take n kept) (take end front); pending = option_map (λ m. take m (drop end front)) s.pending }) (record { list = take n (held s).list; pending = None })
         cut_holds =
             let text' : take end front ≡ take end text = take-put_mid_below end (s.finished - end) bytes ys end (omega arith) (omega (arith, cut_fits, limit_fits)) ∙ sym (take-take end s.finished bytes cut_end) in
-            let list' : cut_up (take n kept) (take end front) ≡ take n (held s).list = (λ i. cut_up (same_rows i) (text' i)) ∙ ap (λ m. cut_up (take n rows) (take m text)) is ∙ row_list n p in_rows read in
+            let list' : cut_up (take n kept) (take end front) ≡ take n (held s).list = (λ i. cut_up (same_rows i) (text' i)) ∙ ap (λ m. cut_up (take n rows) (take m text)) is ∙ row_list n d in' in
             λ i. record { list = list' i; pending = option_map (λ m. take m (drop end front)) (shut i) }
 
   pub all_kept : s.pending ≡ None → (n : ℕ) → s.count ≤ n → held s ≡ record { list = take n (held s).list; pending = None }

@@ -33,9 +33,10 @@ impl<'a> Sheet<'a> {
     pub fn argument(&self, n: usize) -> Option<&[u8]>
         ensures { option_map (λ x. x.now) result ≡ slice_get (held self.now).list n }
     {
-        let &(offset, length) = self.pairs[..self.count].get(n)?;
-        let from = usize::from(offset);
-        Some(&self.bytes[from..from + usize::from(length)])
+        if n >= self.count {
+            return None;
+        }
+        Some(self.at_row(n))
     }
 
     // All of the buffer: the arguments back to back, zeros up to the limit, and what stands past it.

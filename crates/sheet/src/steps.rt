@@ -1,5 +1,6 @@
 // The steps of a sheet, each from one good state to another.
-ghost use Rattle.std.specs.Prelude.{◌≡◌, ◌+◌, ◌≤◌, length, take, drop, Some, None};
+ghost use Rattle.std.specs.Prelude.{◌≡◌, ◌+◌, ◌<◌, ◌≤◌, length, take, drop, Some, None};
+ghost use Rattle.std.specs.List.{slice_get};
 ghost use Rattle.std.specs.Option.{option_map};
 ghost use Rattle.sinks.specs.Sinks.{verdict, refusal, first_bar, cut_told, written, finished, withdrawn};
 ghost use Rattle.sheet.specs.Sheet.{rules_at};
@@ -9,6 +10,16 @@ use super::state::Sheet;
 use text::Refusal;
 
 impl<'a> Sheet<'a> {
+    // The argument of a row.
+    pub(crate) fn at_row(&self, n: usize) -> &[u8]
+        requires { n < self.now.count }
+        ensures { Some result.now ≡ slice_get (held self.now).list n }
+    {
+        let (offset, length) = self.pairs[n];
+        let from = usize::from(offset);
+        &self.bytes[from..from + usize::from(length)]
+    }
+
     // Declines a call that no open argument allows.
     pub(crate) fn check_shut(&self) -> Result<(), Refusal>
         ensures answer { verdict result ≡ cut_told (held self.now) }
@@ -44,13 +55,21 @@ impl<'a> Sheet<'a> {
         self.pending = Some(len + bytes.len());
     }
 
+    // The offset and the length of the open argument. Both are shown to fit, and `try_from` would ask for an answer that is never given.
+    fn span(&self, len: usize) -> (u16, u16)
+        requires { self.now.pending ≡ Some len }
+        ensures { result ≡ (self.now.finished, len) }
+    {
+        (self.finished as u16, len as u16)
+    }
+
     // Puts the open argument last in the list.
     pub(crate) fn seal(&mut self, len: usize)
         requires { self.old.pending ≡ Some len }
         ensures holds { held self.new ≡ finished None (held self.old) }
         ensures stays { lasting self.new ≡ lasting self.old }
     {
-        self.pairs[self.count] = (self.finished as u16, len as u16);
+        self.pairs[self.count] = self.span(len);
         self.count += 1;
         self.finished += len;
         self.pending = None;
