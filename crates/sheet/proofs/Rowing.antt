@@ -136,10 +136,12 @@ module _ {X : Type 0} (limit at k : ℕ) (xs ys : List X) (in' : at + k ≤ limi
   pub clear_behind : (z : X) (end : ℕ) → at + k ≡ end → ClearFrom z limit end xs → ClearFrom z limit end after
   clear_behind z end up e = drop-put_mid at k xs ys end (omega arith) (omega arith) (same ∙ part_long) ∙ e ∙ ap (λ l. replicate (limit - end) z ++ l) (sym beyond_kept)
 
-  pub clear_more : (z : X) (end : ℕ) → at + k ≡ end → ys ≡ replicate (length (take k (drop at xs))) z → ClearFrom z limit end xs → ClearFrom z limit at after
-  clear_more z end up is e =
-      let sum : k + (limit - end) ≡ limit - at = omega arith in
-      drop_at (take at xs) (ys ++ drop k (drop at xs)) at (length-take-le at xs (omega arith))
-      ∙ (λ i. (is ∙ ap (λ n. replicate n z) part_long) i ++ (drop-drop k at xs ∙ ap (λ n. drop n xs) up ∙ e) i)
-      ∙ sym (append_assoc (replicate k z) (replicate (limit - end) z) (drop limit xs))
-      ∙ (λ i. (replicate-append-replicate k (limit - end) z ∙ ap (λ n. replicate n z) sum) i ++ sym beyond_kept i)
+  pub part_zeros : (z : X) → ys ≡ replicate (length (take k (drop at xs))) z → drop at after ≡ replicate k z ++ drop (at + k) xs
+  part_zeros z is = drop_at (take at xs) (ys ++ drop k (drop at xs)) at (length-take-le at xs (omega arith)) ∙ (λ i. (is ∙ ap (λ n. replicate n z) part_long) i ++ drop-drop k at xs i)
+
+-- after zeros in a part
+pub clear_more : {X : Type 0} (z : X) (limit from to : ℕ) (xs new : List X) → from ≤ to → to ≤ limit → drop from new ≡ replicate (to - from) z ++ drop to xs → drop limit new ≡ drop limit xs → ClearFrom z limit to xs → ClearFrom z limit from new
+clear_more z limit from to xs new order in' zeros same e =
+    let sum : to - from + (limit - to) ≡ limit - from = omega arith in
+    zeros ∙ ap (λ l. replicate (to - from) z ++ l) e ∙ sym (append_assoc (replicate (to - from) z) (replicate (limit - to) z) (drop limit xs))
+    ∙ (λ i. (replicate-append-replicate (to - from) (limit - to) z ∙ ap (λ n. replicate n z) sum) i ++ sym same i)

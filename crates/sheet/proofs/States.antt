@@ -159,10 +159,11 @@ module _ (s : Sheet) where
           (λ i. record { list = cut_up rows (text' i); pending = Some (tail' i) }) ∙ sym (ap (λ o. written None bs (at o)) open')
 
     -- its bytes are dropped
-    pub drop_zeros : (k : ℕ) (ys : List ℕ) → k ≡ n → length ys ≡ length (take k (drop s.finished bytes)) → ys ≡ replicate (length (take k (drop s.finished bytes))) 0 → ClearFrom 0 s.limit (s.finished + 0) (put_mid s.finished k bytes ys)
-    drop_zeros k ys long same is =
-        subst (λ m. ClearFrom 0 s.limit m (put_mid s.finished k bytes ys)) (sym (add-zero s.finished))
-        (row.clear_more s.limit s.finished k bytes ys (omega (arith, s.within, open_end)) limit_fits.0 same 0 used (omega (arith, open_end)) is s.zeros)
+    pub drop_zeros : (new : List ℕ) → drop s.finished new ≡ replicate (s.finished + n - s.finished) 0 ++ drop (s.finished + n) bytes → ((m : ℕ) → s.finished + n ≤ m → drop m new ≡ drop m bytes) → ClearFrom 0 s.limit (s.finished + 0) new
+    drop_zeros new zeros behind =
+        let fit : s.finished + n ≤ s.limit = omega (arith, s.within, open_end) in
+        let was : ClearFrom 0 s.limit (s.finished + n) bytes = subst (λ m. ClearFrom 0 s.limit m bytes) open_end s.zeros in
+        subst (λ m. ClearFrom 0 s.limit m new) (sym (add-zero s.finished)) (row.clear_more 0 s.limit s.finished (s.finished + n) bytes new (omega arith) fit zeros (behind s.limit fit) was)
 
     -- the open argument gets its row
     module _ (p : ℕ × ℕ) (is : p ≡ (s.finished, n)) where
@@ -207,26 +208,19 @@ module _ (s : Sheet) where
     shut_at : (place : ℕ) → place + unwrap_or s.pending 0 ≡ place
     shut_at place = ap (λ o. place + unwrap_or o 0) shut ∙ add-zero place
 
-    up : end + (s.finished - end) ≡ used
-    up = omega (arith, cut_end, shut_at s.finished)
+    pub cut_within : s.finished ≤ s.limit
+    cut_within = omega (arith, s.within)
 
-    pub cut_fits : end + (s.finished - end) ≤ s.limit
-    cut_fits = omega (arith, up, s.within)
-
-    pub cut_within : end + unwrap_or s.pending 0 ≤ s.limit
-    cut_within = omega (arith, cut_end, cut_fits, shut_at end)
-
-    -- its bytes and rows are written over
-    module _ (ys : List ℕ) (same : length ys ≡ length (take (s.finished - end) (drop end bytes))) where
-      abbrev front : List ℕ
-      front = put_mid end (s.finished - end) bytes ys
-
+    -- its bytes are zero, and its rows
+    module _ (new : List ℕ) (behind : (m : ℕ) → s.finished ≤ m → drop m new ≡ drop m bytes) where
       -- the rows still as they were
-      pub first_zeros : ClearFrom 0 s.limit used front
-      first_zeros = row.clear_behind s.limit end (s.finished - end) bytes ys cut_fits limit_fits.0 same 0 used up s.zeros
+      pub first_zeros : ClearFrom 0 s.limit used new
+      first_zeros = behind used (omega arith) ∙ s.zeros ∙ ap (λ l. replicate (s.limit - used) 0 ++ l) (sym (behind s.limit cut_within))
 
-      pub cut_zeros : ys ≡ replicate (length (take (s.finished - end) (drop end bytes))) 0 → ClearFrom 0 s.limit (end + unwrap_or s.pending 0) front
-      cut_zeros is' = subst (λ m. ClearFrom 0 s.limit m front) (sym (shut_at end)) (row.clear_more s.limit end (s.finished - end) bytes ys cut_fits limit_fits.0 same 0 used up is' s.zeros)
+      pub cut_zeros : drop end new ≡ replicate (s.finished - end) 0 ++ drop s.finished bytes → ClearFrom 0 s.limit (end + unwrap_or s.pending 0) new
+      cut_zeros zeros =
+          let was : ClearFrom 0 s.limit s.finished bytes = subst (λ m. ClearFrom 0 s.limit m bytes) (shut_at s.finished) s.zeros in
+          subst (λ m. ClearFrom 0 s.limit m new) (sym (shut_at end)) (row.clear_more 0 s.limit end s.finished bytes new cut_end cut_within zeros (behind s.limit cut_within) was)
 
       module _ (zs : List (ℕ × ℕ)) (same' : length zs ≡ length (take (s.count - n) (drop n pairs))) where
         abbrev kept : List (ℕ × ℕ)
@@ -242,7 +236,10 @@ module _ (s : Sheet) where
         cut_few = omega (arith, cut_long, s.few)
 
         pub cut_blank : zs ≡ replicate (length (take (s.count - n) (drop n pairs))) (0, 0) → ClearFrom (0, 0) (length kept) n kept
-        cut_blank is' = subst (λ m. ClearFrom (0, 0) m n kept) (sym cut_long) (row.clear_more (length pairs) n (s.count - n) pairs zs fit (omega arith) same' (0, 0) s.count (omega arith) is' s.blank)
+        cut_blank is' =
+            let up : n + (s.count - n) ≡ s.count = omega arith in
+            let zeros' : drop n kept ≡ replicate (s.count - n) (0, 0) ++ drop s.count pairs = row.part_zeros (length pairs) n (s.count - n) pairs zs fit (omega arith) same' (0, 0) is' ∙ ap (λ m. replicate (s.count - n) (0, 0) ++ drop m pairs) up in
+            subst (λ m. ClearFrom (0, 0) m n kept) (sym cut_long) (row.clear_more (0, 0) (length pairs) n s.count pairs kept (omega arith) s.few zeros' (row.beyond_kept (length pairs) n (s.count - n) pairs zs fit (omega arith) same') s.blank)
 
         same_rows : take n kept ≡ take n rows
         same_rows = take-put_mid_below n (s.count - n) pairs zs n (omega arith) (omega (arith, s.few)) ∙ sym (take-take n s.count pairs (omega arith))
@@ -250,11 +247,11 @@ module _ (s : Sheet) where
         pub cut_lined : chained 0 (take n kept) end ≡ true
         cut_lined = (λ i. chained 0 (same_rows i) (is i)) ∙ row.chained_to 0 (take n rows) (get_or pairs n d).0 (row_lined n d in')
 
-        pub cut_holds : ◌≡◌ {A = Held} (record { list = cut_up (take n kept) (take end front); pending = option_map (λ m. take m (drop end front)) s.pending }) (record { list = take n (held s).list; pending = None })
-        cut_holds =
-            let text' : take end front ≡ take end text = take-put_mid_below end (s.finished - end) bytes ys end (omega arith) (omega (arith, cut_fits, limit_fits)) ∙ sym (take-take end s.finished bytes cut_end) in
-            let list' : cut_up (take n kept) (take end front) ≡ take n (held s).list = (λ i. cut_up (same_rows i) (text' i)) ∙ ap (λ m. cut_up (take n rows) (take m text)) is ∙ row_list n d in' in
-            λ i. record { list = list' i; pending = option_map (λ m. take m (drop end front)) (shut i) }
+        pub cut_holds : take end new ≡ take end bytes → ◌≡◌ {A = Held} (record { list = cut_up (take n kept) (take end new); pending = option_map (λ m. take m (drop end new)) s.pending }) (record { list = take n (held s).list; pending = None })
+        cut_holds front =
+            let text' : take end new ≡ take end text = front ∙ sym (take-take end s.finished bytes cut_end) in
+            let list' : cut_up (take n kept) (take end new) ≡ take n (held s).list = (λ i. cut_up (same_rows i) (text' i)) ∙ ap (λ m. cut_up (take n rows) (take m text)) is ∙ row_list n d in' in
+            λ i. record { list = list' i; pending = option_map (λ m. take m (drop end new)) (shut i) }
 
   pub all_kept : s.pending ≡ None → (n : ℕ) → s.count ≤ n → held s ≡ record { list = take n (held s).list; pending = None }
   all_kept shut n few = λ i. record { list = sym (take_all n (held s).list (omega (arith, number_is))) i; pending = option_map tail (shut i) }

@@ -7,6 +7,7 @@ ghost use Rattle.sheet.specs.Sheet.{limit_of, rules_at, places, content, filled,
 ghost use Rattle.sheet.specs.State.{held, beyond, Lasting, lasting};
 
 use super::state::Sheet;
+use super::steps::clear;
 use sinks::{Sink, Token};
 use text::{LONGEST_TEXT, Refusal};
 
@@ -17,7 +18,7 @@ impl<'a> Sheet<'a> {
         ensures lends { lasting result ≡ record { limit = limit_of (length bytes.old); rows = length pairs.old; past = drop (limit_of (length bytes.old)) bytes.old; buffer = bytes.entry.ghost_name; table = pairs.entry.ghost_name } }
     {
         let limit = bytes.len().min(LONGEST_TEXT);
-        bytes[..limit].fill(0);
+        clear(bytes, 0, limit);
         pairs.fill((0, 0));
         Sheet {
             bytes,

@@ -1,5 +1,5 @@
 // The steps of a sheet, each from one good state to another.
-ghost use Rattle.std.specs.Prelude.{◌≡◌, ◌+◌, ◌<◌, ◌≤◌, length, take, drop, Some, None};
+ghost use Rattle.std.specs.Prelude.{◌≡◌, ℕ, ◌+◌, ◌-◌, ◌<◌, ◌≤◌, ◌++◌, replicate, length, take, drop, Some, None};
 ghost use Rattle.std.specs.List.{slice_get};
 ghost use Rattle.std.specs.Option.{option_map};
 ghost use Rattle.sinks.specs.Sinks.{verdict, refusal, first_bar, cut_told, written, finished, withdrawn};
@@ -8,6 +8,17 @@ ghost use Rattle.sheet.specs.State.{held, lasting};
 
 use super::state::Sheet;
 use text::Refusal;
+
+// Zeros in a part of a buffer.
+pub(crate) fn clear(bytes: &mut [u8], from: usize, to: usize)
+    requires { (from ≤ to) × (to ≤ length bytes.old) }
+    ensures front { take from bytes.new ≡ take from bytes.old }
+    ensures zeros { drop from bytes.new ≡ replicate (to - from) 0 ++ drop to bytes.old }
+    ensures behind { (n : ℕ) → to ≤ n → drop n bytes.new ≡ drop n bytes.old }
+    ensures len { length bytes.new ≡ length bytes.old }
+{
+    bytes[from..to].fill(0);
+}
 
 impl<'a> Sheet<'a> {
     // The argument of a row.
@@ -82,7 +93,7 @@ impl<'a> Sheet<'a> {
         ensures stays { lasting self.new ≡ lasting self.old }
         ensures shut { self.new.pending ≡ None }
     {
-        self.bytes[self.finished..self.finished + len].fill(0);
+        clear(self.bytes, self.finished, self.finished + len);
         self.pending = None;
     }
 
@@ -96,7 +107,7 @@ impl<'a> Sheet<'a> {
             return;
         }
         let end = usize::from(self.pairs[n].0);
-        self.bytes[end..self.finished].fill(0);
+        clear(self.bytes, end, self.finished);
         self.pairs[n..self.count].fill((0, 0));
         self.count = n;
         self.finished = end;
