@@ -3,7 +3,7 @@ use Rattle.std.proofs.Common.{◌≡◌, ℕ, ◌+◌, ◌-◌, ◌<◌, ◌≤�
 use Rattle.std.proofs.Math.Nat.{add-zero, sub-zero}
 use Rattle.std.specs.List.{concat, slice_get}
 use Rattle.std.specs.Option.{option_map, unwrap_or}
-use Rattle.std.proofs.lemmas.List.{append-nil, length-drop, length-set, length-take-le, take-append-drop, take-take, take_all, take_more_set, drop-append-le, drop_all, drop-set-lt, drop-take, get_or-take, get_or_default}
+use Rattle.std.proofs.lemmas.List.{append-nil, length-drop, length-set, length-take-le, take-append-drop, take-take, take_all, take_more_set, drop-append-le, drop_all, drop-set-lt, drop-take, get_or-take}
 use Rattle.std.proofs.lemmas.Option.{slice_get_past}
 use Rattle.std.proofs.lemmas.Slice.{take-put_mid, take-put_mid_below}
 use Rattle.sinks.specs.Sinks.{Held, full, first_bar, written, finished}
