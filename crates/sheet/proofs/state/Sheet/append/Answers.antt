@@ -2,9 +2,6 @@ use Rattle.std.proofs.Common.{length, ap, arith}
 use Rattle.sheet.proofs.States.{write_limited, write_beyond, add_zeros, add_holds}
 use Rattle.sheet.proofs.state.Sheet.append.Goals as goal
 
-pub invariant_of-self-clause-limited : goal.invariant_of-self-clause-limited
-invariant_of-self-clause-limited c = write_limited c.args.self.now _ _ _ (omega (arith, c.requires.fits)) c.copy_from_slice.ensures.len
-
 pub invariant_of-self-clause-zeros : goal.invariant_of-self-clause-zeros
 invariant_of-self-clause-zeros c = add_zeros c.args.self.now c.args.len c.requires.turn c.args.bytes.now _ _ (omega arith) c.requires.fits c.copy_from_slice.ensures.after c.copy_from_slice.ensures.len
 

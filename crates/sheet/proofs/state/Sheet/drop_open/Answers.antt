@@ -4,8 +4,3 @@ use Rattle.sheet.proofs.state.Sheet.drop_open.Goals as goal
 
 pub invariant_of-self-clause-zeros : goal.invariant_of-self-clause-zeros
 invariant_of-self-clause-zeros c = drop_zeros c.args.self.now c.args.len c.requires _ c.clear.ensures.zeros c.clear.ensures.behind
-
-pub returns-clause-stays : goal.returns-clause-stays
-returns-clause-stays c =
-    let s = c.args.self.now in
-    ap (λ l. record { limit = s.limit; rows = length s.pairs.now; past = l; buffer = s.bytes.ghost_name; table = s.pairs.ghost_name }) (c.clear.ensures.behind s.limit (omega (arith, s.within, open_end s c.args.len c.requires)))
