@@ -12,18 +12,8 @@ clear-requires c =
     let fits = states.cut_within s c.requires c.args.n _ (0, 0) c.if-n-self.false c.from-end.ensures in
     (states.cut_end s c.requires c.args.n _ (0, 0) c.if-n-self.false c.from-end.ensures, omega (arith, fits, s.limited))
 
-pub invariant_of-self : goal.invariant_of-self
-invariant_of-self c =
-    let s = c.args.self.now in
-    record {
-      limited = s.limited ∙ ap limit_of (sym c.clear.ensures.len);
-      within = s.within;
-      few = s.few;
-      row = s.row;
-      zeros = states.first_zeros s c.requires c.args.n _ (0, 0) c.if-n-self.false c.from-end.ensures _ c.clear.ensures.behind;
-      blank = s.blank;
-      lined = s.lined;
-    }
+pub invariant_of-self-clause-zeros : goal.invariant_of-self-clause-zeros
+invariant_of-self-clause-zeros c = states.first_zeros c.args.self.now c.requires c.args.n _ (0, 0) c.if-n-self.false c.from-end.ensures _ c.clear.ensures.behind
 
 pub invariant_of-self-2 : goal.invariant_of-self-2
 invariant_of-self-2 c =
