@@ -232,9 +232,6 @@ module _ (s : Sheet) where
         pub cut_long : length kept ≡ length pairs
         cut_long = row.length_kept (length pairs) n (s.count - n) pairs zs fit (omega arith) same'
 
-        pub cut_few : n < length kept
-        cut_few = omega (arith, cut_long, s.few)
-
         pub cut_blank : zs ≡ replicate (length (take (s.count - n) (drop n pairs))) (0, 0) → ClearFrom (0, 0) (length kept) n kept
         cut_blank is' =
             let up : n + (s.count - n) ≡ s.count = omega arith in

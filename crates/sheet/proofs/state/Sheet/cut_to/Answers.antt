@@ -1,5 +1,4 @@
-use Rattle.std.proofs.Common.{sym, ap, ◌∙◌, arith}
-use Rattle.sheet.specs.Sheet.{limit_of}
+use Rattle.std.proofs.Common.{arith}
 use Rattle.sheet.proofs.States as states
 use Rattle.sheet.proofs.state.Sheet.cut_to.Goals as goal
 
@@ -15,27 +14,19 @@ clear-requires c =
 pub invariant_of-self-clause-zeros : goal.invariant_of-self-clause-zeros
 invariant_of-self-clause-zeros c = states.first_zeros c.args.self.now c.requires c.args.n _ (0, 0) c.if-n-self.false c.from-end.ensures _ c.clear.ensures.behind
 
-pub invariant_of-self-2 : goal.invariant_of-self-2
-invariant_of-self-2 c =
-    let s = c.args.self.now in
-    let end = states.cut_end s c.requires c.args.n _ (0, 0) c.if-n-self.false c.from-end.ensures in
-    let few = states.cut_few s c.requires c.args.n _ (0, 0) c.if-n-self.false c.from-end.ensures _ c.clear.ensures.behind _ c.fill.ensures.len in
-    record {
-      limited = s.limited ∙ ap limit_of (sym c.clear.ensures.len);
-      within = omega (arith, end, s.within);
-      few = omega arith;
-      row = λ _. few;
-      zeros = states.cut_zeros s c.requires c.args.n _ (0, 0) c.if-n-self.false c.from-end.ensures _ c.clear.ensures.behind c.clear.ensures.zeros;
-      blank = states.cut_blank s c.requires c.args.n _ (0, 0) c.if-n-self.false c.from-end.ensures _ c.clear.ensures.behind _ c.fill.ensures.len (c.fill.ensures.after (λ y e i. (e.0 i, e.1 i)));
-      lined = states.cut_lined s c.requires c.args.n _ (0, 0) c.if-n-self.false c.from-end.ensures _ c.clear.ensures.behind _ c.fill.ensures.len;
-    }
+pub invariant_of-self-2-clause-within : goal.invariant_of-self-2-clause-within
+invariant_of-self-2-clause-within c =
+    let end = states.cut_end c.args.self.now c.requires c.args.n _ (0, 0) c.if-n-self.false c.from-end.ensures in
+    omega (arith, c.args.self.now.within)
+
+pub invariant_of-self-2-clause-zeros : goal.invariant_of-self-2-clause-zeros
+invariant_of-self-2-clause-zeros c = states.cut_zeros c.args.self.now c.requires c.args.n _ (0, 0) c.if-n-self.false c.from-end.ensures _ c.clear.ensures.behind c.clear.ensures.zeros
+
+pub invariant_of-self-2-clause-blank : goal.invariant_of-self-2-clause-blank
+invariant_of-self-2-clause-blank c = states.cut_blank c.args.self.now c.requires c.args.n _ (0, 0) c.if-n-self.false c.from-end.ensures _ c.clear.ensures.behind _ c.fill.ensures.len (c.fill.ensures.after (λ y e i. (e.0 i, e.1 i)))
+
+pub invariant_of-self-2-clause-lined : goal.invariant_of-self-2-clause-lined
+invariant_of-self-2-clause-lined c = states.cut_lined c.args.self.now c.requires c.args.n _ (0, 0) c.if-n-self.false c.from-end.ensures _ c.clear.ensures.behind _ c.fill.ensures.len
 
 pub returns-clause-holds : goal.returns-clause-holds
 returns-clause-holds c = states.cut_holds c.args.self.now c.requires c.args.n _ (0, 0) c.if-n-self.false c.from-end.ensures _ c.clear.ensures.behind _ c.fill.ensures.len c.clear.ensures.front
-
-pub returns-clause-stays : goal.returns-clause-stays
-returns-clause-stays c =
-    let s = c.args.self.now in
-    let fits = states.cut_within s c.requires c.args.n _ (0, 0) c.if-n-self.false c.from-end.ensures in
-    let long = states.cut_long s c.requires c.args.n _ (0, 0) c.if-n-self.false c.from-end.ensures _ c.clear.ensures.behind _ c.fill.ensures.len in
-    λ i. record { limit = s.limit; rows = long i; past = c.clear.ensures.behind s.limit fits i; buffer = s.bytes.ghost_name; table = s.pairs.ghost_name }
