@@ -1,5 +1,5 @@
 use Rattle.std.proofs.Common.{length, ap, arith}
-use Rattle.sheet.proofs.States.{write_limited, write_beyond, add_zeros, add_holds}
+use Rattle.sheet.proofs.States.{write_beyond, add_zeros, add_holds}
 use Rattle.sheet.proofs.state.Sheet.append.Goals as goal
 
 pub invariant_of-self-clause-zeros : goal.invariant_of-self-clause-zeros

@@ -1,5 +1,4 @@
-use Rattle.std.proofs.Common.{length, ap, arith}
-use Rattle.sheet.proofs.States.{open_end, drop_zeros}
+use Rattle.sheet.proofs.States.{drop_zeros}
 use Rattle.sheet.proofs.state.Sheet.drop_open.Goals as goal
 
 pub invariant_of-self-clause-zeros : goal.invariant_of-self-clause-zeros
