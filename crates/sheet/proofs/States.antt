@@ -1,19 +1,18 @@
 -- What a sheet keeps, from one state to the next. Assumes nothing.
-use Rattle.std.proofs.Common.{◌≡◌, ℕ, ◌+◌, ◌-◌, ◌<◌, ◌≤◌, Bool, true, false, cond, List, [], ◌∷◌, ◌++◌, length, get_or, take, drop, set, replicate, Some, None, sym, ap, ◌∙◌, subst, ⊎_elim, arith}
-use Rattle.std.specs.List.{slice_get}
-use Rattle.std.proofs.lemmas.List.{append_assoc, append-nil, length-drop, length-set, length-take-le, take-append-drop, take_at, take-take, take_all, take_more, take-set-le, take_more_set, drop-append-le, drop_all, drop-take, get_or-take}
-use Rattle.std.proofs.lemmas.Bool.{cases_Bool}
-use Rattle.sinks.specs.Sinks.{Held, full, first_bar, begun, written, finished}
-use Rattle.sinks.proofs.Spaces.{one_zero_more, one_zero_less}
-use Rattle.sheet.specs.Rows.{Chained, chained, cut_up, ClearFrom, BlankFrom, Cleared}
-use Rattle.sheet.specs.Sheet.{limit_of, together, places, rules_at, content, filled, filled_rows}
+use Rattle.std.proofs.Common.{◌≡◌, ℕ, ◌+◌, ◌-◌, ◌<◌, ◌≤◌, true, List, [], ◌∷◌, ◌++◌, is_some, length, get_or, take, drop, set, replicate, Some, None, Option, sym, ap, ◌∙◌, subst, arith}
+use Rattle.std.proofs.Math.Nat.{add-zero, sub-zero}
+use Rattle.std.specs.List.{concat, slice_get}
+use Rattle.std.specs.Option.{option_map, unwrap_or}
+use Rattle.std.proofs.lemmas.List.{append-nil, length-drop, length-set, length-take-le, take-append-drop, take-take, take_all, take_more_set, drop-append-le, drop_all, drop-set-lt, drop-take, get_or-take}
+use Rattle.std.proofs.lemmas.Option.{slice_get_past}
+use Rattle.std.proofs.lemmas.Slice.{take-put_mid, take-put_mid_below}
+use Rattle.sinks.specs.Sinks.{Held, full, first_bar, written, finished}
+use borrow.Rule.Slice.PartMut.{put_mid}
+use Rattle.sheet.specs.Rows.{Chained, chained, cut_up, ClearFrom}
+use Rattle.sheet.specs.Sheet.{limit_of, places, rules_at, content, filled, filled_rows}
 use Rattle.sheet.specs.State.{held, beyond}
 use Rattle.sheet.specs.declared.state.Sheet.{Sheet}
 use Rattle.sheet.proofs.Rowing as row
-
-together_push : (list : List (List ℕ)) (a : List ℕ) → together (list ++ a ∷ []) ≡ together list ++ a
-together_push [] a = append-nil a
-together_push (b ∷ list) a = ap (λ l. b ++ l) (together_push list a) ∙ sym (append_assoc b (together list) a)
 
 module _ (s : Sheet) where
   abbrev bytes : List ℕ
@@ -28,204 +27,228 @@ module _ (s : Sheet) where
   abbrev text : List ℕ
   text = take s.finished bytes
 
-  abbrev tail : List ℕ
-  tail = drop s.finished (take s.used bytes)
+  -- so many bytes of the open argument
+  abbrev tail : ℕ → List ℕ
+  tail n = take n (drop s.finished bytes)
 
-  abbrev at : Bool → Held
-  at b = record { list = cut_up rows text; pending = cond b (Some tail) None }
+  abbrev at : Option ℕ → Held
+  at o = record { list = cut_up rows text; pending = option_map tail o }
+
+  abbrev used : ℕ
+  used = s.finished + unwrap_or s.pending 0
 
   pub limit_fits : (s.limit ≤ length bytes) × (s.limit ≤ 65535)
   limit_fits = (omega (arith, s.limited), omega (arith, s.limited))
 
-  used_long : length (take s.used bytes) ≡ s.used
-  used_long = length-take-le s.used bytes (omega (arith, limit_fits, s.within))
-
   text_long : length text ≡ s.finished
-  text_long = length-take-le s.finished bytes (omega (arith, limit_fits, s.within, s.order))
-
-  tail_long : length tail ≡ s.used - s.finished
-  tail_long = length-drop s.finished (take s.used bytes) ∙ ap (λ n. n - s.finished) used_long
+  text_long = length-take-le s.finished bytes (omega (arith, limit_fits, s.within))
 
   text_spans : length text ≡ s.finished - 0
   text_spans = text_long ∙ omega arith
+
+  rows_long : length rows ≡ s.count
+  rows_long = length-take-le s.count pairs s.few
 
   chain : Chained 0 rows s.finished
   chain = row.chained_from 0 rows s.finished s.lined
 
   pub number_is : s.count ≡ length (held s).list
-  number_is = sym (row.length-cut_up rows text ∙ length-take-le s.count pairs s.few)
+  number_is = sym (row.length-cut_up rows text ∙ rows_long)
 
-  together_is : together (held s).list ≡ text
-  together_is = row.together_cut_up 0 rows s.finished text chain text_spans
+  concat_is : concat (held s).list ≡ text
+  concat_is = row.concat-cut_up 0 rows s.finished text chain text_spans
 
-  total_is : length (together (held s).list) ≡ s.finished
-  total_is = ap length together_is ∙ text_long
+  both : (n : ℕ) → text ++ tail n ≡ take (s.finished + n) bytes
+  both n =
+      (λ i. sym (take-take s.finished (s.finished + n) bytes (omega arith)) i ++ sym (drop-take s.finished n bytes) i)
+      ∙ take-append-drop s.finished (take (s.finished + n) bytes)
 
-  both : text ++ tail ≡ take s.used bytes
-  both = ap (λ l. l ++ tail) (sym (take-take s.finished s.used bytes s.order)) ∙ take-append-drop s.finished (take s.used bytes)
-
-  content_is : content (held s) ≡ take s.used bytes
-  content_is =
-      ⊎_elim (λ e. ap (λ b. content (at b)) e ∙ together_push (cut_up rows text) tail ∙ ap (λ l. l ++ tail) together_is ∙ both)
-      (λ e. ap (λ b. content (at b)) e ∙ ap together (append-nil (cut_up rows text)) ∙ together_is ∙ ap (λ n. take n bytes) (sym (s.shut e)))
-      (cases_Bool s.begun)
+  content_is : (o : Option ℕ) → content (at o) ≡ take (s.finished + unwrap_or o 0) bytes
+  content_is None = ap concat (append-nil (cut_up rows text)) ∙ concat_is ∙ ap (λ n. take n bytes) (sym (add-zero s.finished))
+  content_is (Some n) = row.concat_push (cut_up rows text) (tail n) ∙ ap (λ l. l ++ tail n) concat_is ∙ both n
 
   pub every_byte : bytes ≡ filled s.limit (content (held s)) (beyond s)
   every_byte =
-      sym (take-append-drop s.used bytes) ∙ ap (λ l. take s.used bytes ++ l) s.zeros
-      ∙ ap (λ n. take s.used bytes ++ (replicate (s.limit - n) 0 ++ beyond s)) (sym used_long)
-      ∙ ap (λ l. filled s.limit l (beyond s)) (sym content_is)
-
-  rows_are : places 0 (held s).list ≡ rows
-  rows_are = row.places_cut_up 0 rows s.finished text chain text_spans
+      let long : length (take used bytes) ≡ used = length-take-le used bytes (omega (arith, limit_fits, s.within)) in
+      sym (take-append-drop used bytes) ∙ ap (λ l. take used bytes ++ l) s.zeros
+      ∙ ap (λ n. take used bytes ++ (replicate (s.limit - n) 0 ++ beyond s)) (sym long)
+      ∙ ap (λ l. filled s.limit l (beyond s)) (sym (content_is s.pending))
 
   pub every_pair : pairs ≡ filled_rows (length pairs) (places 0 (held s).list)
   every_pair =
-      sym (take-append-drop s.count pairs) ∙ ap (λ l. rows ++ l) s.blank ∙ ap (λ n. rows ++ replicate (length pairs - n) (0, 0)) (sym (length-take-le s.count pairs s.few))
-      ∙ ap (filled_rows (length pairs)) (sym rows_are)
-
-  pub write_fits : (bs : List ℕ) → s.used + length bs ≤ s.limit → first_bar (rules_at s.limit (length pairs)) (held s).list tail bs ≡ None
-  write_fits bs h = row.all_fit s.limit (length pairs) (held s).list tail bs (omega (arith, total_is, tail_long, s.order))
-
-  pub write_full : (bs : List ℕ) → s.limit < s.used + length bs → first_bar (rules_at s.limit (length pairs)) (held s).list tail bs ≡ Some full
-  write_full bs h = row.not_all_fit s.limit (length pairs) (held s).list tail bs (omega (arith, total_is, tail_long, s.order, s.within)) (omega (arith, total_is, tail_long, s.order))
-
-  pub cleared : (p : ℕ) → p + 1 ≡ s.used → Cleared s.limit bytes p
-  cleared p e = row.cleared s.limit bytes p (omega (arith, s.within)) limit_fits.0
+      let none : drop (length pairs) pairs ≡ [] = drop_all (length pairs) pairs (omega arith) in
+      let rest : drop s.count pairs ≡ replicate (length pairs - s.count) (0, 0) = s.blank ∙ ap (λ l. replicate (length pairs - s.count) (0, 0) ++ l) none ∙ append-nil (replicate (length pairs - s.count) (0, 0)) in
+      sym (take-append-drop s.count pairs) ∙ ap (λ l. rows ++ l) rest ∙ ap (λ n. rows ++ replicate (length pairs - n) (0, 0)) (sym rows_long)
+      ∙ ap (filled_rows (length pairs)) (sym (row.places-cut_up 0 rows s.finished text chain text_spans))
 
   -- the argument of a row
-  pub argument_is : (n : ℕ) (d : ℕ × ℕ) → n < s.count → slice_get (held s).list n ≡ Some (take (get_or pairs n d).1 (drop (get_or pairs n d).0 bytes))
-  argument_is n d h =
-      let in' : n < length rows = omega (arith, length-take-le s.count pairs s.few) in
-      let read : get_or rows n d ≡ get_or pairs n d = get_or-take s.count pairs n d h in
-      let end = row.chained_end 0 rows s.finished n d chain in' in
-      let same : take (get_or rows n d).1 (drop ((get_or rows n d).0 - 0) text) ≡ take (get_or rows n d).1 (drop (get_or rows n d).0 bytes) = inner (get_or rows n d).0 (get_or rows n d).1 end in
-      row.nth-cut_up 0 rows s.finished n text d chain in' ∙ ap Some same ∙ ap (λ (q : ℕ × ℕ). Some (take q.1 (drop q.0 bytes))) read
-    where
-      inner : (a k : ℕ) → a + k ≤ s.finished → take k (drop (a - 0) text) ≡ take k (drop a bytes)
-      inner a k h =
-          let none : a - 0 ≡ a = omega arith in
-          let sum : a + (s.finished - a) ≡ s.finished = omega arith in
-          ap (λ m. take k (drop m text)) none ∙ ap (λ m. take k (drop a (take m bytes))) (sym sum) ∙ ap (take k) (drop-take a (s.finished - a) bytes) ∙ take-take k (s.finished - a) (drop a bytes) (omega arith)
-
-  pub argument_in : (n : ℕ) (d : ℕ × ℕ) → n < s.count → (get_or pairs n d).0 + (get_or pairs n d).1 ≤ length bytes
-  argument_in n d h =
-      let in' : n < length rows = omega (arith, length-take-le s.count pairs s.few) in
-      let read : get_or rows n d ≡ get_or pairs n d = get_or-take s.count pairs n d h in
-      let end = subst (λ (q : ℕ × ℕ). q.0 + q.1 ≤ s.finished) read (row.chained_end 0 rows s.finished n d chain in') in
-      omega (arith, limit_fits, s.within, s.order)
-
-  -- an argument begun: none of the content is its own
-  pub start_holds : s.begun ≡ false → record { list = (held s).list; pending = Some tail } ≡ begun None (held s)
-  start_holds e = ap (λ l. record { list = (held s).list; pending = Some l }) (drop_all s.finished (take s.used bytes) (omega (arith, used_long, s.shut e)))
-
-  -- one byte more in the open argument
-  module _ (open' : s.begun ≡ true) (space : s.used < s.limit) (b : ℕ) where
-    abbrev pushed : List ℕ
-    pushed = set bytes s.used b
-
-    in_bytes : s.used < length bytes
-    in_bytes = omega (arith, limit_fits)
-
-    pub push_limited : s.limit ≡ limit_of (length pushed)
-    push_limited = s.limited ∙ ap limit_of (sym (length-set bytes s.used b))
-
-    pub push_zeros : ClearFrom s.limit (s.used + 1) pushed
-    push_zeros = row.one_less s.limit bytes s.used space limit_fits.0 b s.zeros
-
-    pub push_beyond : drop s.limit pushed ≡ drop s.limit bytes
-    push_beyond = row.beyond_kept s.limit bytes s.used space limit_fits.0 b
-
-    same : take s.finished pushed ≡ text
-    same = take-set-le s.finished bytes s.used b s.order
-
-    tail_more : drop s.finished (take (s.used + 1) pushed) ≡ tail ++ b ∷ []
-    tail_more = ap (drop s.finished) (take_more_set bytes s.used b in_bytes) ∙ drop-append-le s.finished (take s.used bytes) (b ∷ []) (omega (arith, used_long, s.order))
-
-    pub push_holds : record { list = cut_up rows (take s.finished pushed); pending = cond s.begun (Some (drop s.finished (take (s.used + 1) pushed))) None } ≡ written None (b ∷ []) (held s)
-    push_holds = (λ i. record { list = cut_up rows (same i); pending = cond (open' i) (Some (tail_more i)) None }) ∙ sym (ap (λ t. written None (b ∷ []) (at t)) open')
-
-  -- the open argument gets its row
-  module _ (open' : s.begun ≡ true) (p : ℕ × ℕ) (is : p ≡ (s.finished, s.used - s.finished)) where
-    abbrev sealed : List (ℕ × ℕ)
-    sealed = set pairs s.count p
-
-    pub seal_long : length sealed ≡ length pairs
-    seal_long = length-set pairs s.count p
-
-    pub seal_few : s.count + 1 ≤ length sealed
-    seal_few = omega (arith, seal_long, s.row open')
-
-    pub seal_blank : BlankFrom (s.count + 1) sealed
-    seal_blank = one_zero_less pairs s.count (s.row open') (0, 0) p s.blank
-
-    rows_more : take (s.count + 1) sealed ≡ rows ++ (s.finished, s.used - s.finished) ∷ []
-    rows_more = take_more_set pairs s.count p (s.row open') ∙ ap (λ q. rows ++ q ∷ []) is
-
-    pub seal_lined : chained 0 (take (s.count + 1) sealed) s.used ≡ true
-    seal_lined =
-        let sum : s.finished + (s.used - s.finished) ≡ s.used = omega (arith, s.order) in
-        row.chained_to 0 (take (s.count + 1) sealed) s.used (subst (λ l. Chained 0 l s.used) (sym rows_more) (subst (λ n. Chained 0 (rows ++ (s.finished, s.used - s.finished) ∷ []) n) sum (row.chained_push 0 rows s.finished (s.used - s.finished) chain)))
-
-    pub seal_holds : record { list = cut_up (take (s.count + 1) sealed) (take s.used bytes); pending = None } ≡ finished None (held s)
-    seal_holds =
-        ap (λ l. record { list = l; pending = None })
-        ((λ i. cut_up (rows_more i) (sym both i)) ∙ row.cut_up_push 0 rows s.finished (s.used - s.finished) text tail chain text_spans tail_long)
-        ∙ sym (ap (λ t. finished None (at t)) open')
-
-  -- the last argument is open again
-  module _ (shut' : s.begun ≡ false) (some : 0 < s.count) (d : ℕ × ℕ) where
-    abbrev last : ℕ
-    last = s.count - 1
-
+  module _ (n : ℕ) (d : ℕ × ℕ) (in' : n < s.count) where
     abbrev p : ℕ × ℕ
-    p = get_or pairs last d
+    p = get_or pairs n d
 
-    abbrev opened : List (ℕ × ℕ)
-    opened = set pairs last (0, 0)
+    in_rows : n < length rows
+    in_rows = omega (arith, rows_long)
 
-    up : last + 1 ≡ s.count
-    up = omega arith
+    read : get_or rows n d ≡ p
+    read = get_or-take s.count pairs n d in'
 
-    in_pairs : last < length pairs
-    in_pairs = omega (arith, s.few)
+    pub row_end : p.0 + p.1 ≤ s.finished
+    row_end = subst (λ (q : ℕ × ℕ). q.0 + q.1 ≤ s.finished) read (row.chained_end 0 rows s.finished n d chain in_rows)
 
-    pub open_long : length opened ≡ length pairs
-    open_long = length-set pairs last (0, 0)
+    pub argument_is : slice_get (held s).list n ≡ Some (take p.1 (drop p.0 bytes))
+    argument_is =
+        let sum : s.finished ≡ p.0 + (s.finished - p.0) = omega (arith, row_end) in
+        let same : take p.1 (drop p.0 text) ≡ take p.1 (drop p.0 bytes) = ap (λ m. take p.1 (drop p.0 (take m bytes))) sum ∙ ap (take p.1) (drop-take p.0 (s.finished - p.0) bytes) ∙ take-take p.1 (s.finished - p.0) (drop p.0 bytes) (omega (arith, row_end)) in
+        row.nth-cut_up 0 rows s.finished n text d chain in_rows ∙ ap (λ (q : ℕ × ℕ). Some (take q.1 (drop (q.0 - 0) text))) read
+        ∙ ap (λ m. Some (take p.1 (drop m text))) (sub-zero p.0) ∙ ap Some same
 
-    pub open_blank : BlankFrom last opened
-    open_blank = one_zero_more pairs last in_pairs (0, 0) (subst (λ n. BlankFrom n pairs) (sym up) s.blank)
+    row_lined : Chained 0 (take n rows) p.0
+    row_lined = subst (λ (q : ℕ × ℕ). Chained 0 (take n rows) q.0) read (row.chained_take 0 rows s.finished n d chain in_rows)
 
-    split : rows ≡ take last pairs ++ p ∷ []
-    split = ap (λ n. take n pairs) (sym up) ∙ take_more pairs last d in_pairs
+    row_list : cut_up (take n rows) (take p.0 text) ≡ take n (held s).list
+    row_list = ap (λ m. cut_up (take n rows) (take m text)) (sym (sub-zero p.0)) ∙ ap (λ (q : ℕ × ℕ). cut_up (take n rows) (take (q.0 - 0) text)) (sym read) ∙ row.take-cut_up 0 rows s.finished n text d chain in_rows
 
-    parts : Chained 0 (take last pairs) p.0 × (p.0 + p.1 ≡ s.finished)
-    parts = row.chained_last 0 (take last pairs) p s.finished (subst (λ l. Chained 0 l s.finished) split chain)
+  pub no_argument : (n : ℕ) → s.count ≤ n → None ≡ slice_get (held s).list n
+  no_argument n past = sym (slice_get_past (held s).list n (omega (arith, number_is)))
 
-    same_rows : take last opened ≡ take last pairs
-    same_rows = take-set-le last pairs last (0, 0) (omega arith)
+  -- a part of the buffer is written
+  module _ (from k : ℕ) (ys : List ℕ) (fit : from + k ≤ s.limit) (same : length ys ≡ length (take k (drop from bytes))) where
+    pub write_limited : s.limit ≡ limit_of (length (put_mid from k bytes ys))
+    write_limited = s.limited ∙ ap limit_of (sym (row.length_kept s.limit from k bytes ys fit limit_fits.0 same))
 
-    pub open_order : p.0 ≤ s.used
-    open_order = omega (arith, parts.1, s.order)
+    pub write_beyond : drop s.limit (put_mid from k bytes ys) ≡ beyond s
+    write_beyond = row.beyond_kept s.limit from k bytes ys fit limit_fits.0 same
 
-    pub open_lined : chained 0 (take last opened) p.0 ≡ true
-    open_lined = row.chained_to 0 (take last opened) p.0 (subst (λ l. Chained 0 l p.0) (sym same_rows) parts.0)
+  -- an open argument
+  module _ (n : ℕ) (open' : s.pending ≡ Some n) where
+    pub open_end : used ≡ s.finished + n
+    open_end = ap (λ o. s.finished + unwrap_or o 0) open'
 
-    pub open_holds : cut_up (take last opened) (take p.0 bytes) ≡ take last (held s).list
-    open_holds =
-        let front : take p.0 text ≡ take p.0 bytes = take-take p.0 s.finished bytes (omega (arith, parts.1)) in
-        let all : (held s).list ≡ cut_up (take last pairs) (take p.0 text) ++ drop p.0 text ∷ [] = ap (λ l. cut_up l text) split ∙ row.cut_up_last (take last pairs) p s.finished text (subst (λ l. Chained 0 l s.finished) split chain) text_long in
-        let long : length (cut_up (take last pairs) (take p.0 text)) ≡ last = row.length-cut_up (take last pairs) (take p.0 text) ∙ length-take-le last pairs (omega (arith, in_pairs)) in
-        (λ i. cut_up (same_rows i) (sym front i)) ∙ sym (ap (take last) all ∙ take_at (cut_up (take last pairs) (take p.0 text)) (drop p.0 text ∷ []) last long)
+    tail_long : length (tail n) ≡ n
+    tail_long = length-take-le n (drop s.finished bytes) (omega (arith, limit_fits, s.within, open_end, length-drop s.finished bytes))
 
--- the last argument dropped, and what is left of the first n
-module _ (s s' : Sheet) (n : ℕ) (more : n < s.count) (list : (held s').list ≡ take (s.count - 1) (held s).list) where
-  pub one_fewer : s'.count < s.count
-  one_fewer = omega (arith, number_is s', ap length list, length-take-le (s.count - 1) (held s).list (omega (arith, number_is s)))
+    total_is : length (concat (held s).list) ≡ s.finished
+    total_is = ap length concat_is ∙ text_long
 
-  pub first_kept : take n (held s').list ≡ take n (held s).list
-  first_kept = ap (take n) list ∙ take-take n (s.count - 1) (held s).list (omega arith)
+    pub write_fits : (bs : List ℕ) → s.finished + n + length bs ≤ s.limit → first_bar (rules_at s.limit (length pairs)) (held s).list (tail n) bs ≡ None
+    write_fits bs h = row.all_fit s.limit (length pairs) (held s).list (tail n) bs (omega (arith, total_is, tail_long))
 
-pub all_cut : (s : Sheet) (n : ℕ) (was : Held) → s.begun ≡ false → s.count ≤ n → take n (held s).list ≡ take n was.list → held s ≡ record { list = take n was.list; pending = None }
-all_cut s n was shut' few same =
-    ap (at s) shut' ∙ ap (λ l. record { list = l; pending = None }) (sym (take_all n (held s).list (omega (arith, number_is s))) ∙ same)
+    pub write_full : (bs : List ℕ) → s.limit < s.finished + n + length bs → first_bar (rules_at s.limit (length pairs)) (held s).list (tail n) bs ≡ Some full
+    write_full bs h = row.not_all_fit s.limit (length pairs) (held s).list (tail n) bs (omega (arith, total_is, tail_long, s.within, open_end)) (omega (arith, total_is, tail_long))
+
+    -- bytes are added
+    module _ (bs ys : List ℕ) (k : ℕ) (long : k ≡ length bs) (fit : s.finished + n + length bs ≤ s.limit) (is : ys ≡ bs) (same : length ys ≡ length (take k (drop (s.finished + n) bytes))) where
+      abbrev added : List ℕ
+      added = put_mid (s.finished + n) k bytes ys
+
+      pub add_zeros : ClearFrom 0 s.limit (s.finished + (n + length bs)) added
+      add_zeros =
+          let was : ClearFrom 0 s.limit (s.finished + n) bytes = subst (λ m. ClearFrom 0 s.limit m bytes) open_end s.zeros in
+          let sum : s.finished + n + k ≡ s.finished + (n + length bs) = omega arith in
+          let later : ClearFrom 0 s.limit (s.finished + (n + length bs)) bytes = subst (λ m. ClearFrom 0 s.limit m bytes) sum (row.clear_later 0 s.limit (s.finished + n) k bytes (omega arith) was) in
+          row.clear_behind s.limit (s.finished + n) k bytes ys (omega arith) limit_fits.0 same 0 (s.finished + (n + length bs)) sum later
+
+      pub add_holds : record { list = cut_up rows (take s.finished added); pending = Some (take (n + length bs) (drop s.finished added)) } ≡ written None bs (held s)
+      add_holds =
+          let in' : s.finished + n ≤ length bytes = omega (arith, limit_fits) in
+          let text' : take s.finished added ≡ text = take-put_mid_below (s.finished + n) k bytes ys s.finished (omega arith) in' in
+          let front : s.finished ≤ length (take (s.finished + n) bytes) = omega (arith, length-take-le (s.finished + n) bytes in') in
+          let tail' : take (n + length bs) (drop s.finished added) ≡ tail n ++ bs =
+          sym (drop-take s.finished (n + length bs) added) ∙ ap (drop s.finished) (take-put_mid (s.finished + n) k bytes ys (s.finished + (n + length bs)) (omega (arith, ap length is)) in')
+          ∙ drop-append-le s.finished (take (s.finished + n) bytes) ys front ∙ (λ i. drop-take s.finished n bytes i ++ is i) in
+          (λ i. record { list = cut_up rows (text' i); pending = Some (tail' i) }) ∙ sym (ap (λ o. written None bs (at o)) open')
+
+    -- its bytes are dropped
+    pub drop_zeros : (new : List ℕ) → drop s.finished new ≡ replicate (s.finished + n - s.finished) 0 ++ drop (s.finished + n) bytes → ((m : ℕ) → s.finished + n ≤ m → drop m new ≡ drop m bytes) → ClearFrom 0 s.limit (s.finished + 0) new
+    drop_zeros new zeros behind =
+        let fit : s.finished + n ≤ s.limit = omega (arith, s.within, open_end) in
+        let was : ClearFrom 0 s.limit (s.finished + n) bytes = subst (λ m. ClearFrom 0 s.limit m bytes) open_end s.zeros in
+        subst (λ m. ClearFrom 0 s.limit m new) (sym (add-zero s.finished)) (row.clear_more 0 s.limit s.finished (s.finished + n) bytes new (omega arith) fit zeros (behind s.limit fit) was)
+
+    -- the open argument gets its row
+    module _ (p : ℕ × ℕ) (is : p ≡ (s.finished, n)) where
+      abbrev sealed : List (ℕ × ℕ)
+      sealed = set pairs s.count p
+
+      has_row : s.count < length pairs
+      has_row = s.row (ap is_some open')
+
+      sealed_long : length sealed ≡ length pairs
+      sealed_long = length-set pairs s.count p
+
+      pub seal_few : s.count + 1 ≤ length sealed
+      seal_few = omega (arith, sealed_long, has_row)
+
+      pub seal_zeros : ClearFrom 0 s.limit (s.finished + n + 0) bytes
+      seal_zeros = subst (λ m. ClearFrom 0 s.limit m bytes) (open_end ∙ sym (add-zero (s.finished + n))) s.zeros
+
+      pub seal_blank : ClearFrom (0, 0) (length sealed) (s.count + 1) sealed
+      seal_blank =
+          let same : drop (s.count + 1) sealed ≡ drop (s.count + 1) pairs = drop-set-lt (s.count + 1) pairs s.count p (omega arith) in
+          same ∙ row.clear_later (0, 0) (length pairs) s.count 1 pairs (omega (arith, has_row)) s.blank
+          ∙ (λ i. replicate (sym sealed_long i - (s.count + 1)) (0, 0) ++ (drop_all (length pairs) pairs (omega arith) ∙ sym (drop_all (length sealed) sealed (omega arith))) i)
+
+      rows_more : take (s.count + 1) sealed ≡ rows ++ (s.finished, n) ∷ []
+      rows_more = take_more_set pairs s.count p has_row ∙ ap (λ q. rows ++ q ∷ []) is
+
+      pub seal_lined : chained 0 (take (s.count + 1) sealed) (s.finished + n) ≡ true
+      seal_lined = row.chained_to 0 (take (s.count + 1) sealed) (s.finished + n) (subst (λ l. Chained 0 l (s.finished + n)) (sym rows_more) (row.chained_push 0 rows s.finished n chain))
+
+      pub seal_holds : record { list = cut_up (take (s.count + 1) sealed) (take (s.finished + n) bytes); pending = None } ≡ finished None (held s)
+      seal_holds =
+          ap (λ l. record { list = l; pending = None })
+          ((λ i. cut_up (rows_more i) (sym (both n) i)) ∙ row.cut_up_push 0 rows s.finished n text (tail n) chain text_spans tail_long)
+          ∙ sym (ap (λ o. finished None (at o)) open')
+
+  -- all but the first n arguments are dropped
+  module _ (shut : s.pending ≡ None) (n end : ℕ) (d : ℕ × ℕ) (in' : n < s.count) (is : end ≡ (get_or pairs n d).0) where
+    pub cut_end : end ≤ s.finished
+    cut_end = omega (arith, is, row_end n d in')
+
+    shut_at : (place : ℕ) → place + unwrap_or s.pending 0 ≡ place
+    shut_at place = ap (λ o. place + unwrap_or o 0) shut ∙ add-zero place
+
+    pub cut_within : s.finished ≤ s.limit
+    cut_within = omega (arith, s.within)
+
+    -- its bytes are zero, and its rows
+    module _ (new : List ℕ) (behind : (m : ℕ) → s.finished ≤ m → drop m new ≡ drop m bytes) where
+      -- the rows still as they were
+      pub first_zeros : ClearFrom 0 s.limit used new
+      first_zeros = behind used (omega arith) ∙ s.zeros ∙ ap (λ l. replicate (s.limit - used) 0 ++ l) (sym (behind s.limit cut_within))
+
+      pub cut_zeros : drop end new ≡ replicate (s.finished - end) 0 ++ drop s.finished bytes → ClearFrom 0 s.limit (end + unwrap_or s.pending 0) new
+      cut_zeros zeros =
+          let was : ClearFrom 0 s.limit s.finished bytes = subst (λ m. ClearFrom 0 s.limit m bytes) (shut_at s.finished) s.zeros in
+          subst (λ m. ClearFrom 0 s.limit m new) (sym (shut_at end)) (row.clear_more 0 s.limit end s.finished bytes new cut_end cut_within zeros (behind s.limit cut_within) was)
+
+      module _ (zs : List (ℕ × ℕ)) (same' : length zs ≡ length (take (s.count - n) (drop n pairs))) where
+        abbrev kept : List (ℕ × ℕ)
+        kept = put_mid n (s.count - n) pairs zs
+
+        fit : n + (s.count - n) ≤ length pairs
+        fit = omega (arith, s.few)
+
+        pub cut_long : length kept ≡ length pairs
+        cut_long = row.length_kept (length pairs) n (s.count - n) pairs zs fit (omega arith) same'
+
+        pub cut_blank : zs ≡ replicate (length (take (s.count - n) (drop n pairs))) (0, 0) → ClearFrom (0, 0) (length kept) n kept
+        cut_blank is' =
+            let up : n + (s.count - n) ≡ s.count = omega arith in
+            let zeros' : drop n kept ≡ replicate (s.count - n) (0, 0) ++ drop s.count pairs = row.part_zeros (length pairs) n (s.count - n) pairs zs fit (omega arith) same' (0, 0) is' ∙ ap (λ m. replicate (s.count - n) (0, 0) ++ drop m pairs) up in
+            subst (λ m. ClearFrom (0, 0) m n kept) (sym cut_long) (row.clear_more (0, 0) (length pairs) n s.count pairs kept (omega arith) s.few zeros' (row.beyond_kept (length pairs) n (s.count - n) pairs zs fit (omega arith) same') s.blank)
+
+        same_rows : take n kept ≡ take n rows
+        same_rows = take-put_mid_below n (s.count - n) pairs zs n (omega arith) (omega (arith, s.few)) ∙ sym (take-take n s.count pairs (omega arith))
+
+        pub cut_lined : chained 0 (take n kept) end ≡ true
+        cut_lined = (λ i. chained 0 (same_rows i) (is i)) ∙ row.chained_to 0 (take n rows) (get_or pairs n d).0 (row_lined n d in')
+
+        pub cut_holds : take end new ≡ take end bytes → ◌≡◌ {A = Held} (record { list = cut_up (take n kept) (take end new); pending = option_map (λ m. take m (drop end new)) s.pending }) (record { list = take n (held s).list; pending = None })
+        cut_holds front =
+            let text' : take end new ≡ take end text = front ∙ sym (take-take end s.finished bytes cut_end) in
+            let list' : cut_up (take n kept) (take end new) ≡ take n (held s).list = (λ i. cut_up (same_rows i) (text' i)) ∙ ap (λ m. cut_up (take n rows) (take m text)) is ∙ row_list n d in' in
+            λ i. record { list = list' i; pending = option_map (λ m. take m (drop end new)) (shut i) }
+
+  pub all_kept : s.pending ≡ None → (n : ℕ) → s.count ≤ n → held s ≡ record { list = take n (held s).list; pending = None }
+  all_kept shut n few = λ i. record { list = sym (take_all n (held s).list (omega (arith, number_is))) i; pending = option_map tail (shut i) }

@@ -1,15 +1,12 @@
 -- The sheet: arguments back to back in a buffer, and a table of their places. Assumes nothing.
 use Rattle.std.specs.Prelude.{ℕ, ◌+◌, ◌-◌, min, cond, List, [], ◌∷◌, ◌++◌, length, replicate, Some, None, nat_le, nat_lt}
+use Rattle.std.specs.List.{concat}
 use Rattle.std.specs.Option.{option_to_list}
 use Rattle.sinks.specs.Sinks.{Held, full, Rules}
 
 -- so many bytes of a buffer are used at most
 abbrev pub limit_of : ℕ → ℕ
 limit_of size = min size 65535
-
-abbrev pub together : List (List ℕ) → List ℕ
-together [] = []
-together (a ∷ rest) = a ++ together rest
 
 -- the offset and the length of each, from a place on
 abbrev pub places : ℕ → List (List ℕ) → List (ℕ × ℕ)
@@ -20,13 +17,13 @@ places at (a ∷ rest) = (at, length a) ∷ places (at + length a) rest
 abbrev pub rules_at : ℕ → ℕ → Rules
 rules_at limit rows = record {
   begins = λ list. cond (nat_lt (length list) rows) None (Some full);
-  carries = λ list argument b. cond (nat_le (length (together list) + length argument + 1) limit) None (Some full);
+  carries = λ list argument b. cond (nat_le (length (concat list) + length argument + 1) limit) None (Some full);
   finishes = λ list argument. None;
 }
 
 -- all arguments, the open one last
 abbrev pub content : Held → List ℕ
-content h = together (h.list ++ option_to_list h.pending)
+content h = concat (h.list ++ option_to_list h.pending)
 
 -- the bytes, zeros up to the limit, and what stands past it
 abbrev pub filled : ℕ → List ℕ → List ℕ → List ℕ

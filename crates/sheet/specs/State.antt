@@ -1,6 +1,7 @@
 -- What a sheet means. Assumes nothing.
-use Rattle.std.specs.Prelude.{ℕ, cond, List, length, take, drop, Some, None}
+use Rattle.std.specs.Prelude.{ℕ, List, length, take, drop}
 use Rattle.std.specs.Borrow.{GName}
+use Rattle.std.specs.Option.{option_map}
 use Rattle.sinks.specs.Sinks.{Held}
 use Rattle.sheet.specs.Rows.{cut_up}
 use Rattle.sheet.specs.declared.state.Sheet.{Sheet}
@@ -9,7 +10,7 @@ use Rattle.sheet.specs.declared.state.Sheet.{Sheet}
 abbrev pub held : Sheet → Held
 held s = record {
   list = cut_up (take s.count s.pairs.now) (take s.finished s.bytes.now);
-  pending = cond s.begun (Some (drop s.finished (take s.used s.bytes.now))) None;
+  pending = option_map (λ n. take n (drop s.finished s.bytes.now)) s.pending;
 }
 
 -- the bytes past the limit

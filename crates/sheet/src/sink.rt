@@ -3,11 +3,11 @@ ghost use Rattle.std.specs.Prelude.{◌≡◌, length, drop};
 ghost use Rattle.std.specs.List.{slice_get};
 ghost use Rattle.std.specs.Option.{option_map};
 ghost use Rattle.sinks.specs.Sinks.{nothing};
-ghost use Rattle.sheet.specs.Sheet.{limit_of, rules_at, places, content as contentOf, filled, filled_rows};
+ghost use Rattle.sheet.specs.Sheet.{limit_of, rules_at, places, content, filled, filled_rows};
 ghost use Rattle.sheet.specs.State.{held, beyond, Lasting, lasting};
 
 use super::state::Sheet;
-use super::steps::{blank, clear};
+use super::steps::clear;
 use sinks::{Sink, Token};
 use text::{LONGEST_TEXT, Refusal};
 
@@ -18,16 +18,15 @@ impl<'a> Sheet<'a> {
         ensures lends { lasting result ≡ record { limit = limit_of (length bytes.old); rows = length pairs.old; past = drop (limit_of (length bytes.old)) bytes.old; buffer = bytes.entry.ghost_name; table = pairs.entry.ghost_name } }
     {
         let limit = bytes.len().min(LONGEST_TEXT);
-        clear(bytes, limit);
-        blank(pairs);
+        clear(bytes, 0, limit);
+        pairs.fill((0, 0));
         Sheet {
             bytes,
             pairs,
             limit,
             count: 0,
             finished: 0,
-            begun: false,
-            used: 0,
+            pending: None,
         }
     }
 
@@ -35,7 +34,7 @@ impl<'a> Sheet<'a> {
     pub fn argument(&self, n: usize) -> Option<&[u8]>
         ensures { option_map (λ x. x.now) result ≡ slice_get (held self.now).list n }
     {
-        if n >= self.number() {
+        if n >= self.count {
             return None;
         }
         Some(self.at_row(n))
@@ -44,9 +43,9 @@ impl<'a> Sheet<'a> {
     // All of the buffer: the arguments back to back, zeros up to the limit, and what stands past it.
     pub fn bytes(&self) -> &[u8]
         ensures lends { result.now ≡ self.now.bytes.now }
-        ensures every_byte { self.now.bytes.now ≡ filled self.now.limit (contentOf (held self.now)) (beyond self.now) }
+        ensures every_byte { self.now.bytes.now ≡ filled self.now.limit (content (held self.now)) (beyond self.now) }
     {
-        self.whole()
+        self.bytes
     }
 
     // All of the table: the offset and the length of each argument, and zeros behind them.
@@ -54,7 +53,7 @@ impl<'a> Sheet<'a> {
         ensures lends { result.now ≡ self.now.pairs.now }
         ensures every_pair { self.now.pairs.now ≡ filled_rows (length self.now.pairs.now) (places 0 (held self.now).list) }
     {
-        self.table()
+        self.pairs
     }
 }
 
@@ -69,31 +68,31 @@ impl<'a> Sink for Sheet<'a> {
 
     fn begin(&mut self) -> Result<Token, Refusal> {
         self.check_shut()?;
-        if self.number() == self.pairs.len() {
+        if self.count == self.pairs.len() {
             return Err(Refusal::NoSpace);
         }
-        self.start();
+        self.pending = Some(0);
         Ok(Token::issue())
     }
 
     fn write(&mut self, bytes: &[u8]) -> Result<(), Refusal> {
-        self.check_begun()?;
-        self.check_write(bytes)?;
-        self.append(bytes);
+        let len = self.pending.ok_or(Refusal::OutOfTurn)?;
+        self.check_write(len, bytes)?;
+        self.append(len, bytes);
         Ok(())
     }
 
     fn finish(&mut self, token: Token) -> Result<(), Refusal> {
         token.spend();
-        self.check_begun()?;
-        self.seal();
+        let len = self.pending.ok_or(Refusal::OutOfTurn)?;
+        self.seal(len);
         Ok(())
     }
 
     fn withdraw(&mut self, token: Token) -> Result<(), Refusal> {
         token.spend();
-        self.check_begun()?;
-        self.drop_open();
+        let len = self.pending.ok_or(Refusal::OutOfTurn)?;
+        self.drop_open(len);
         Ok(())
     }
 
@@ -104,12 +103,12 @@ impl<'a> Sink for Sheet<'a> {
     }
 
     fn count(&self) -> usize {
-        self.number()
+        self.count
     }
 
     fn empty(&mut self) {
-        if self.begun {
-            self.drop_open();
+        if let Some(len) = self.pending {
+            self.drop_open(len);
         }
         self.cut_to(0);
     }

@@ -1,29 +1,27 @@
 // What a sheet keeps.
-ghost use Rattle.std.specs.Prelude.{◌≡◌, ◌<◌, ◌≤◌, true, false, length, take};
-ghost use Rattle.sheet.specs.Rows.{chained, ClearFrom, BlankFrom};
+ghost use Rattle.std.specs.Prelude.{◌≡◌, ◌+◌, ◌<◌, ◌≤◌, true, length, take, IsSome};
+ghost use Rattle.std.specs.Option.{unwrap_or};
+ghost use Rattle.sheet.specs.Rows.{chained, ClearFrom};
 ghost use Rattle.sheet.specs.Sheet.{limit_of};
 
+// Both slices are lent by the caller, since no sink takes from the heap: so the lengths stand beside them.
 #[derive(Drop)]
 pub struct Sheet<'a> {
     pub(crate) bytes: &'a mut [u8],
-    // the offset and the length of each finished argument
+    // the offset and the length of each finished argument, as every table of a sheet lies
     pub(crate) pairs: &'a mut [(u16, u16)],
     // how many bytes are used at most
     pub(crate) limit: usize,
     // how many arguments are finished, and where they end
     pub(crate) count: usize,
     pub(crate) finished: usize,
-    // whether an argument is open behind them
-    pub(crate) begun: bool,
-    // where the content ends
-    pub(crate) used: usize,
+    // the length of the open argument behind them, if there is one
+    pub(crate) pending: Option<usize>,
     ghost limited: { limit ≡ limit_of (length bytes.now) },
-    ghost within: { used ≤ limit },
-    ghost order: { finished ≤ used },
+    ghost within: { finished + unwrap_or pending 0 ≤ limit },
     ghost few: { count ≤ length pairs.now },
-    ghost row: { begun ≡ true → count < length pairs.now },
-    ghost zeros: { ClearFrom limit used bytes.now },
-    ghost blank: { BlankFrom count pairs.now },
+    ghost row: { IsSome pending → count < length pairs.now },
+    ghost zeros: { ClearFrom 0 limit (finished + unwrap_or pending 0) bytes.now },
+    ghost blank: { ClearFrom (0, 0) (length pairs.now) count pairs.now },
     ghost lined: { chained 0 (take count pairs.now) finished ≡ true },
-    ghost shut: { begun ≡ false → used ≡ finished },
 }

@@ -76,7 +76,7 @@ pub fn lent_to_a_holder() -> u8
     let mut holder = Holder::new(&mut sink);
     holder.empty();
     let all = holder.sink().buffer();
-    if all.len() == 2 { all[1] } else { 0 }
+    all[1]
 }
 
 fn held_and_emptied<S: Sink>(sink: S) -> S
@@ -95,5 +95,5 @@ pub fn handed_back() -> u8
     let mut bytes: [u8; 2] = [7, 7];
     let sink = held_and_emptied(Joined::new(&mut bytes));
     let all = sink.buffer();
-    if all.len() == 2 { all[1] } else { 0 }
+    all[1]
 }

@@ -1,6 +1,6 @@
 // A sink for arguments of one byte each.
-ghost use Rattle.std.specs.Prelude.{◌≡◌, ℕ, ◌<◌, ◌≤◌, true, map, if◌then◌else◌, Some, None, vec_len, vec_capacity};
-ghost use Rattle.std.specs.Option.{option_to_list};
+ghost use Rattle.std.specs.Prelude.{◌≡◌, ℕ, ◌<◌, map, true, IsSome, vec_len, vec_capacity};
+ghost use Rattle.std.specs.Option.{option_map, option_to_list};
 ghost use Rattle.strangers.specs.Letters.{letter, rules_at};
 
 use sinks::{Sink, Token};
@@ -10,9 +10,9 @@ use text::Refusal;
 #[derive(Drop)]
 pub struct Letters {
     letters: Vec<u8>,
-    begun: bool,
-    byte: Option<u8>,
-    ghost space: { begun ≡ true → vec_len letters < vec_capacity letters },
+    // the open argument, which has a byte or has none yet
+    pending: Option<Option<u8>>,
+    ghost space: { IsSome pending → vec_len letters < vec_capacity letters },
 }
 
 impl Letters {
@@ -21,8 +21,7 @@ impl Letters {
         let letters = Vec::with_capacity(heap, space)?;
         Ok(Letters {
             letters,
-            begun: false,
-            byte: None,
+            pending: None,
         })
     }
 }
@@ -34,63 +33,47 @@ impl Sink for Letters {
 
     ghost rules = { rules_at };
 
-    ghost means = { λ s. record { list = map letter s.letters.items; pending = (if s.begun then Some (option_to_list s.byte) else None) } };
+    ghost means = { λ s. record { list = map letter s.letters.items; pending = option_map option_to_list s.pending } };
 
     fn begin(&mut self) -> Result<Token, Refusal> {
-        if self.begun {
+        if self.pending.is_some() {
             return Err(Refusal::OutOfTurn);
         }
         if self.letters.len() >= self.letters.capacity() {
             return Err(Refusal::NoSpace);
         }
-        self.begun = true;
-        self.byte = None;
+        self.pending = Some(None);
         Ok(Token::issue())
     }
 
     fn write(&mut self, bytes: &[u8]) -> Result<(), Refusal> {
-        if !self.begun {
-            return Err(Refusal::OutOfTurn);
+        let byte = self.pending.ok_or(Refusal::OutOfTurn)?;
+        match (byte, bytes) {
+            (_, []) => Ok(()),
+            (None, [first]) => {
+                self.pending = Some(Some(*first));
+                Ok(())
+            }
+            _ => Err(Refusal::CannotCarry),
         }
-        if bytes.is_empty() {
-            return Ok(());
-        }
-        if bytes.len() > 1 {
-            return Err(Refusal::CannotCarry);
-        }
-        if let Some(_) = self.byte {
-            return Err(Refusal::CannotCarry);
-        }
-        self.byte = Some(bytes[0]);
-        Ok(())
     }
 
     fn finish(&mut self, token: Token) -> Result<(), Refusal> {
         token.spend();
-        if !self.begun {
-            return Err(Refusal::OutOfTurn);
-        }
-        self.begun = false;
-        match self.byte {
-            Some(byte) => {
-                self.letters.push_reserved(byte);
-                Ok(())
-            }
-            None => Err(Refusal::CannotCarry),
-        }
+        let open = self.pending.take().ok_or(Refusal::OutOfTurn)?;
+        let byte = open.ok_or(Refusal::CannotCarry)?;
+        self.letters.push_reserved(byte);
+        Ok(())
     }
 
     fn withdraw(&mut self, token: Token) -> Result<(), Refusal> {
         token.spend();
-        if !self.begun {
-            return Err(Refusal::OutOfTurn);
-        }
-        self.begun = false;
+        self.pending.take().ok_or(Refusal::OutOfTurn)?;
         Ok(())
     }
 
     fn cut(&mut self, n: usize) -> Result<(), Refusal> {
-        if self.begun {
+        if self.pending.is_some() {
             return Err(Refusal::OutOfTurn);
         }
         self.letters.truncate(n);
@@ -102,7 +85,7 @@ impl Sink for Letters {
     }
 
     fn empty(&mut self) {
-        self.begun = false;
+        self.pending = None;
         self.letters.clear();
     }
 }

@@ -1,129 +1,124 @@
 // A plain model of the joined sink and of the sheet: lists of bytes, and the rules said once more in the simplest way.
 use std::alloc::Global;
 use std::test::Fail;
+use text::Refusal;
+
+// Which sink it is a model of.
+#[derive(Clone, Copy)]
+pub(crate) enum Kind {
+    Joined,
+    Sheet { rows: usize },
+}
 
 #[derive(Drop)]
 pub(crate) struct Model {
     heap: Global,
-    joined: bool,
+    kind: Kind,
     size: usize,
-    rows: usize,
     pub list: Vec<Vec<u8>>,
-    pub begun: bool,
-    pub pending: Vec<u8>,
+    pub pending: Option<Vec<u8>>,
 }
 
 impl Model {
-    // Of a joined sink where there are no rows.
-    pub(crate) fn new(heap: Global, size: usize, rows: Option<usize>) -> Model {
+    pub(crate) fn new(heap: Global, size: usize, kind: Kind) -> Model {
         Model {
             heap,
-            joined: rows.is_none(),
+            kind,
             size,
-            rows: rows.unwrap_or(0),
             list: Vec::new(heap),
-            begun: false,
-            pending: Vec::new(heap),
+            pending: None,
         }
     }
 
+    // How many bytes the arguments have, with the separators of a joined sink.
     fn used(&self) -> usize {
-        let mut n: usize = self.pending.len();
-        for argument in &self.list {
-            n = n.saturating_add(argument.len());
+        let arguments = self.list.iter().chain(self.pending.iter());
+        let bytes = arguments.fold(0usize, |n, argument| n.saturating_add(argument.len()));
+        match self.kind {
+            Kind::Joined => bytes.saturating_add(self.list.len()),
+            Kind::Sheet { .. } => bytes,
         }
-        if self.joined {
-            n = n.saturating_add(self.list.len());
-        }
-        n
     }
 
-    pub(crate) fn begin(&mut self) -> u8 {
-        if self.begun {
-            return 7;
+    // Whether one more argument can begin.
+    fn has_room(&self) -> bool {
+        match self.kind {
+            Kind::Joined => self.used() <= self.size,
+            Kind::Sheet { rows } => self.list.len() < rows,
         }
-        self.pending.clear();
-        if self.joined && self.used() > self.size {
-            return 5;
-        }
-        if !self.joined && self.list.len() >= self.rows {
-            return 5;
-        }
-        self.begun = true;
-        0
     }
 
-    pub(crate) fn write(&mut self, bytes: &[u8]) -> Result<u8, Fail> {
-        if !self.begun {
-            return Ok(7);
+    pub(crate) fn begin(&mut self) -> Result<(), Refusal> {
+        if self.pending.is_some() {
+            return Err(Refusal::OutOfTurn);
         }
-        let mut used = self.used();
+        if !self.has_room() {
+            return Err(Refusal::NoSpace);
+        }
+        self.pending = Some(Vec::new(self.heap));
+        Ok(())
+    }
+
+    // The first byte that does not go in is told.
+    fn check_bytes(&self, bytes: &[u8]) -> Result<(), Refusal> {
+        let mut left = self.size.saturating_sub(self.used());
         for b in bytes {
-            if self.joined && *b == 31 {
-                return Ok(4);
+            if *b == 31 && matches!(self.kind, Kind::Joined) {
+                return Err(Refusal::CannotCarry);
             }
-            if used >= self.size {
-                return Ok(5);
-            }
-            used = used.saturating_add(1);
+            left = left.checked_sub(1).ok_or(Refusal::NoSpace)?;
         }
-        self.pending.extend_from_slice(bytes)?;
-        Ok(0)
+        Ok(())
     }
 
-    pub(crate) fn finish(&mut self) -> Result<u8, Fail> {
-        if !self.begun {
-            return Ok(7);
+    pub(crate) fn write(&mut self, bytes: &[u8]) -> Result<Result<(), Refusal>, Fail> {
+        if self.pending.is_none() {
+            return Ok(Err(Refusal::OutOfTurn));
         }
-        self.begun = false;
-        if self.joined && self.list.is_empty() && self.pending.is_empty() {
-            return Ok(4);
+        let told = self.check_bytes(bytes);
+        if let (Ok(()), Some(argument)) = (told, &mut self.pending) {
+            argument.extend_from_slice(bytes)?;
         }
-        let argument = Vec::from_slice(self.heap, self.pending.as_slice())?;
-        self.pending.clear();
+        Ok(told)
+    }
+
+    pub(crate) fn finish(&mut self) -> Result<Result<(), Refusal>, Fail> {
+        let Some(argument) = self.pending.take() else {
+            return Ok(Err(Refusal::OutOfTurn));
+        };
+        if matches!(self.kind, Kind::Joined) && self.list.is_empty() && argument.is_empty() {
+            return Ok(Err(Refusal::CannotCarry));
+        }
         self.list.push(argument)?;
-        Ok(0)
+        Ok(Ok(()))
     }
 
-    pub(crate) fn withdraw(&mut self) -> u8 {
-        if !self.begun {
-            return 7;
-        }
-        self.begun = false;
-        self.pending.clear();
-        0
+    pub(crate) fn withdraw(&mut self) -> Result<(), Refusal> {
+        self.pending.take().ok_or(Refusal::OutOfTurn)?;
+        Ok(())
     }
 
-    pub(crate) fn cut(&mut self, n: usize) -> u8 {
-        if self.begun {
-            return 7;
+    pub(crate) fn cut(&mut self, n: usize) -> Result<(), Refusal> {
+        if self.pending.is_some() {
+            return Err(Refusal::OutOfTurn);
         }
         self.list.truncate(n);
-        0
+        Ok(())
     }
 
     pub(crate) fn empty(&mut self) {
-        self.begun = false;
-        self.pending.clear();
+        self.pending = None;
         self.list.clear();
     }
 
     // What the buffer of a joined sink has to hold.
     pub(crate) fn text(&self) -> Result<Vec<u8>, Fail> {
         let mut text = Vec::new(self.heap);
-        let mut first = true;
-        for argument in &self.list {
-            if !first {
+        for (n, argument) in self.list.iter().chain(self.pending.iter()).enumerate() {
+            if n > 0 {
                 text.push(31)?;
             }
-            first = false;
             text.extend_from_slice(argument.as_slice())?;
-        }
-        if self.begun {
-            if !first {
-                text.push(31)?;
-            }
-            text.extend_from_slice(self.pending.as_slice())?;
         }
         Ok(text)
     }

@@ -1,6 +1,6 @@
 // A sink that takes nothing.
 ghost use Rattle.std.specs.Prelude.{◌≡◌};
-ghost use Rattle.sinks.specs.Sinks.{nothing as emptyHeld};
+ghost use Rattle.sinks.specs.Sinks.{nothing};
 ghost use Rattle.strangers.specs.Letters.{never};
 
 use sinks::{Sink, Token};
@@ -16,7 +16,7 @@ impl Sink for TakesNothing {
 
     ghost rules = { λ _. never };
 
-    ghost means = { λ _. emptyHeld };
+    ghost means = { λ _. nothing };
 
     fn begin(&mut self) -> Result<Token, Refusal> {
         Err(Refusal::NoSpace)

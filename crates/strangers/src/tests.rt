@@ -1,4 +1,4 @@
-use super::model::Model;
+use super::model::{Kind, Model};
 use super::{Letters, TakesNothing};
 use joined::Joined;
 use sheet::Sheet;
@@ -15,44 +15,47 @@ fn number(told: Result<(), Refusal>) -> u8 {
     }
 }
 
-fn begin_number(told: Result<Token, Refusal>) -> u8 {
-    match told {
-        Ok(token) => {
-            token.spend();
-            0
-        }
-        Err(refusal) => refusal.number(),
-    }
-}
-
 // The next of a row of numbers that looks random.
 fn next(seed: u32) -> u32 {
     seed.wrapping_mul(1_664_525).wrapping_add(1_013_904_223)
 }
 
 // One call on the sink and the same on the model. The test stands in for the owner of the tokens.
+// A random number picks the call, so this is a match on the number.
 fn step<S: Sink>(rt: &impl Abort, sink: &mut S, model: &mut Model, seed: u32) -> Result<(), Fail> {
     let texts: [&[u8]; 4] = [b"", b"a", b"bcd", b"e\x1f"];
     let some = (seed >> 8) as usize % 4;
     match (seed >> 16) % 16 {
-        0 | 1 | 2 | 3 => {
-            assert_eq!(rt; begin_number(sink.begin()), model.begin());
+        0..=3 => {
+            assert_eq!(rt;
+                number(sink.begin().map(Token::spend)),
+                number(model.begin())
+            );
             Ok(())
         },
-        4 | 5 | 6 | 7 | 8 => {
-            assert_eq!(rt; number(sink.write(texts[some])), model.write(texts[some])?);
+        4..=8 => {
+            assert_eq!(rt;
+                number(sink.write(texts[some])),
+                number(model.write(texts[some])?)
+            );
             Ok(())
         },
-        9 | 10 | 11 | 12 => {
-            assert_eq!(rt; number(sink.finish(Token::issue())), model.finish()?);
+        9..=12 => {
+            assert_eq!(rt;
+                number(sink.finish(Token::issue())),
+                number(model.finish()?)
+            );
             Ok(())
         },
         13 => {
-            assert_eq!(rt; number(sink.withdraw(Token::issue())), model.withdraw());
+            assert_eq!(rt;
+                number(sink.withdraw(Token::issue())),
+                number(model.withdraw())
+            );
             Ok(())
         },
         14 => {
-            assert_eq!(rt; number(sink.cut(some)), model.cut(some));
+            assert_eq!(rt; number(sink.cut(some)), number(model.cut(some)));
             Ok(())
         },
         _ => {
@@ -66,18 +69,13 @@ fn step<S: Sink>(rt: &impl Abort, sink: &mut S, model: &mut Model, seed: u32) ->
 }
 
 fn zeros(bytes: &[u8]) -> bool {
-    for b in bytes {
-        if *b != 0 {
-            return false;
-        }
-    }
-    true
+    bytes.iter().all(|b| *b == 0)
 }
 
 fn joined_history(rt: &(impl Abort + AllocGlobal), size: usize) -> Result<(), Fail> {
     let mut buffer = vec![in rt.alloc(); 0xaau8; size]?;
     let mut sink = Joined::new(buffer.as_mut_slice());
-    let mut model = Model::new(rt.alloc(), size, None);
+    let mut model = Model::new(rt.alloc(), size, Kind::Joined);
     let mut seed = 1;
     for _ in 0..2000 {
         seed = next(seed);
@@ -104,7 +102,7 @@ fn sheet_history(rt: &(impl Abort + AllocGlobal), size: usize, rows: usize) -> R
     let mut buffer = vec![in rt.alloc(); 0xaau8; size]?;
     let mut table = vec![in rt.alloc(); (7u16, 7u16); rows]?;
     let mut sink = Sheet::new(buffer.as_mut_slice(), table.as_mut_slice());
-    let mut model = Model::new(rt.alloc(), size, Some(rows));
+    let mut model = Model::new(rt.alloc(), size, Kind::Sheet { rows });
     let mut seed = 1;
     for _ in 0..2000 {
         seed = next(seed);
@@ -119,17 +117,16 @@ fn sheet_history(rt: &(impl Abort + AllocGlobal), size: usize, rows: usize) -> R
             used = used.saturating_add(argument.len());
         }
         assert!(rt; sink.argument(model.list.len()).is_none());
-        if model.begun {
-            used = used.saturating_add(model.pending.len());
+        if let Some(argument) = &model.pending {
+            used = used.saturating_add(argument.len());
         }
         let all = sink.bytes();
         assert!(rt; all.len() == size && used <= size);
         assert!(rt; zeros(&all[used..]));
         let pairs = sink.pairs();
         assert!(rt; pairs.len() == rows && model.list.len() <= rows);
-        for pair in &pairs[model.list.len()..] {
-            assert!(rt; *pair == (0, 0));
-        }
+        let rest = &pairs[model.list.len()..];
+        assert!(rt; rest.iter().all(|pair| *pair == (0, 0)));
     }
     Ok(())
 }

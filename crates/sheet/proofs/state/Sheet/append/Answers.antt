@@ -1,18 +1,14 @@
-use Rattle.std.proofs.Common.{refl, ap, ◌∙◌, arith}
-use Rattle.sinks.proofs.Laws.{written_none, written_byte, written_all}
+use Rattle.std.proofs.Common.{length, ap, arith}
+use Rattle.sheet.proofs.States.{write_beyond, add_zeros, add_holds}
 use Rattle.sheet.proofs.state.Sheet.append.Goals as goal
 
-pub loop-b-init : goal.loop-b-init
-loop-b-init c = (c.requires.0, (omega arith), refl, written_none _)
+pub invariant_of-self-clause-zeros : goal.invariant_of-self-clause-zeros
+invariant_of-self-clause-zeros c = add_zeros c.args.self.now c.args.len c.requires.turn c.args.bytes.now _ _ (omega arith) c.requires.fits c.copy_from_slice.ensures.after c.copy_from_slice.ensures.len
 
-pub push-requires : goal.push-requires
-push-requires c = let inv = c.loop-b.invariant in (inv.0, omega (arith, ap (λ f. f.limit) inv.2, inv.1, c.requires.1))
+pub returns-clause-holds : goal.returns-clause-holds
+returns-clause-holds c = add_holds c.args.self.now c.args.len c.requires.turn c.args.bytes.now _ _ (omega arith) c.requires.fits c.copy_from_slice.ensures.after c.copy_from_slice.ensures.len
 
-pub loop-b-preserved : goal.loop-b-preserved
-loop-b-preserved c =
-    let inv = c.loop-b.invariant in
-    let told = c.push.ensures in
-    (told.begun, omega (arith, told.used, inv.1), told.stays ∙ inv.2, written_byte _ _ _ _ _ c.loop-b-test.true inv.3 told.holds)
-
-pub returns : goal.returns
-returns c = let inv = c.loop-b.invariant in record { holds = written_all _ _ _ _ c.loop-b-test.false inv.3; stays = inv.2 }
+pub returns-clause-stays : goal.returns-clause-stays
+returns-clause-stays c =
+    let s = c.args.self.now in
+    ap (λ l. record { limit = s.limit; rows = length s.pairs.now; past = l; buffer = s.bytes.ghost_name; table = s.pairs.ghost_name }) (write_beyond s _ _ _ (omega (arith, c.requires.fits)) c.copy_from_slice.ensures.len)

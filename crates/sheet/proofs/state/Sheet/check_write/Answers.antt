@@ -1,14 +1,13 @@
-use Rattle.std.proofs.Common.{◌≡◌, ℕ, sym, ap, arith}
+use Rattle.std.proofs.Common.{sym, ap, arith}
 use Rattle.std.specs.Option.{option_map}
 use Rattle.sinks.specs.Sinks.{refusal}
-use Rattle.sheet.proofs.States.{write_fits, write_full}
+use Rattle.sheet.proofs.States.{open_end, write_fits, write_full}
 use Rattle.sheet.proofs.state.Sheet.check_write.Goals as goal
 
-pub returns-then-bytes-self : goal.returns-then-bytes-self
-returns-then-bytes-self c = record {
-  answer = sym (ap (option_map refusal) (write_full c.args.self.now c.args.bytes.now (omega arith)));
-  fits = λ e. let z : ◌≡◌ {A = ℕ} 0 1 = cc in absurd (omega arith);
-}
+pub returns-then-bytes-self-clause-answer : goal.returns-then-bytes-self-clause-answer
+returns-then-bytes-self-clause-answer c = sym (ap (option_map refusal) (write_full c.args.self.now c.args.len c.requires c.args.bytes.now (omega arith)))
 
-pub returns : goal.returns
-returns c = record { answer = sym (ap (option_map refusal) (write_fits c.args.self.now c.args.bytes.now (omega (arith, c.args.self.now.within)))); fits = λ _. omega (arith, c.args.self.now.within) }
+pub returns-clause-answer : goal.returns-clause-answer
+returns-clause-answer c =
+    let s = c.args.self.now in
+    sym (ap (option_map refusal) (write_fits s c.args.len c.requires c.args.bytes.now (omega (arith, s.within, open_end s c.args.len c.requires))))

@@ -1,18 +1,32 @@
-use Rattle.std.proofs.Common.{ap, ◌∙◌, arith}
-use Rattle.sheet.specs.State.{held}
-use Rattle.sheet.proofs.States.{one_fewer, first_kept, all_cut}
+use Rattle.std.proofs.Common.{arith}
+use Rattle.sheet.proofs.States as states
 use Rattle.sheet.proofs.state.Sheet.cut_to.Goals as goal
 
-pub loop-self-smaller : goal.loop-self-smaller
-loop-self-smaller c = one_fewer c.loop-self.self c.drop_open.new.self c.args.n (omega (arith, c.number.ensures.kept)) (ap (λ h. h.list) c.drop_open.ensures.holds ∙ c.reopen.ensures.holds)
+pub returns-then-n-self-clause-holds : goal.returns-then-n-self-clause-holds
+returns-then-n-self-clause-holds c = states.all_kept c.args.self.now c.requires c.args.n (omega arith)
 
-pub loop-self-preserved : goal.loop-self-preserved
-loop-self-preserved c =
-    let inv = c.loop-self.invariant in
-    let kept = first_kept c.loop-self.self c.drop_open.new.self c.args.n (omega (arith, c.number.ensures.kept)) (ap (λ h. h.list) c.drop_open.ensures.holds ∙ c.reopen.ensures.holds) in
-    (c.drop_open.ensures.shut, kept ∙ inv.1, c.drop_open.ensures.stays ∙ c.reopen.ensures.stays ∙ inv.2)
+pub clear-requires : goal.clear-requires
+clear-requires c =
+    let s = c.args.self.now in
+    let fits = states.cut_within s c.requires c.args.n _ (0, 0) c.if-n-self.false c.from-end.ensures in
+    (states.cut_end s c.requires c.args.n _ (0, 0) c.if-n-self.false c.from-end.ensures, omega (arith, fits, s.limited))
 
-pub returns : goal.returns
-returns c =
-    let inv = c.loop-self.invariant in
-    record { holds = all_cut c.loop-self.self c.args.n (held c.args.self.now) inv.0 (omega (arith, c.number.ensures.kept)) inv.1; stays = inv.2 }
+pub invariant_of-self-clause-zeros : goal.invariant_of-self-clause-zeros
+invariant_of-self-clause-zeros c = states.first_zeros c.args.self.now c.requires c.args.n _ (0, 0) c.if-n-self.false c.from-end.ensures _ c.clear.ensures.behind
+
+pub invariant_of-self-2-clause-within : goal.invariant_of-self-2-clause-within
+invariant_of-self-2-clause-within c =
+    let end = states.cut_end c.args.self.now c.requires c.args.n _ (0, 0) c.if-n-self.false c.from-end.ensures in
+    omega (arith, c.args.self.now.within)
+
+pub invariant_of-self-2-clause-zeros : goal.invariant_of-self-2-clause-zeros
+invariant_of-self-2-clause-zeros c = states.cut_zeros c.args.self.now c.requires c.args.n _ (0, 0) c.if-n-self.false c.from-end.ensures _ c.clear.ensures.behind c.clear.ensures.zeros
+
+pub invariant_of-self-2-clause-blank : goal.invariant_of-self-2-clause-blank
+invariant_of-self-2-clause-blank c = states.cut_blank c.args.self.now c.requires c.args.n _ (0, 0) c.if-n-self.false c.from-end.ensures _ c.clear.ensures.behind _ c.fill.ensures.len (c.fill.ensures.after (λ y e i. (e.0 i, e.1 i)))
+
+pub invariant_of-self-2-clause-lined : goal.invariant_of-self-2-clause-lined
+invariant_of-self-2-clause-lined c = states.cut_lined c.args.self.now c.requires c.args.n _ (0, 0) c.if-n-self.false c.from-end.ensures _ c.clear.ensures.behind _ c.fill.ensures.len
+
+pub returns-clause-holds : goal.returns-clause-holds
+returns-clause-holds c = states.cut_holds c.args.self.now c.requires c.args.n _ (0, 0) c.if-n-self.false c.from-end.ensures _ c.clear.ensures.behind _ c.fill.ensures.len c.clear.ensures.front

@@ -1,32 +1,17 @@
-use Rattle.std.proofs.Common.{refl, arith}
-use Rattle.std.proofs.lemmas.Bool.{false≢true}
-use Rattle.sheet.specs.State.{beyond}
-use Rattle.sheet.proofs.States as states
+use Rattle.sheet.proofs.States.{seal_few, seal_zeros, seal_blank, seal_lined, seal_holds}
 use Rattle.sheet.proofs.state.Sheet.seal.Goals as goal
 
-pub invariant_of-self : goal.invariant_of-self
-invariant_of-self c =
-    let s = c.args.self.now in
-    let p = c.span-span.result in
-    let is = c.span-span.ensures in
-    record {
-      limited = s.limited;
-      within = s.within;
-      order = omega arith;
-      few = states.seal_few s c.requires p is;
-      row = λ e. absurd (false≢true e);
-      zeros = s.zeros;
-      blank = states.seal_blank s c.requires p is;
-      lined = states.seal_lined s c.requires p is;
-      shut = λ _. refl;
-    }
+pub invariant_of-self-clause-few : goal.invariant_of-self-clause-few
+invariant_of-self-clause-few c = seal_few c.args.self.now c.args.len c.requires _ c.span.ensures
 
-pub returns : goal.returns
-returns c =
-    let s = c.args.self.now in
-    let p = c.span-span.result in
-    let is = c.span-span.ensures in
-    record {
-      holds = states.seal_holds s c.requires p is;
-      stays = λ i. record { limit = s.limit; rows = states.seal_long s c.requires p is i; past = beyond s; buffer = s.bytes.ghost_name; table = s.pairs.ghost_name };
-    }
+pub invariant_of-self-clause-zeros : goal.invariant_of-self-clause-zeros
+invariant_of-self-clause-zeros c = seal_zeros c.args.self.now c.args.len c.requires _ c.span.ensures
+
+pub invariant_of-self-clause-blank : goal.invariant_of-self-clause-blank
+invariant_of-self-clause-blank c = seal_blank c.args.self.now c.args.len c.requires _ c.span.ensures
+
+pub invariant_of-self-clause-lined : goal.invariant_of-self-clause-lined
+invariant_of-self-clause-lined c = seal_lined c.args.self.now c.args.len c.requires _ c.span.ensures
+
+pub returns-clause-holds : goal.returns-clause-holds
+returns-clause-holds c = seal_holds c.args.self.now c.args.len c.requires _ c.span.ensures

@@ -1,30 +1,19 @@
-use Rattle.std.proofs.Common.{◌≡◌, ◌<◌, map, length, vec_items, vec_capacity, sym, refl, arith}
-use Rattle.std.proofs.lemmas.Bool.{eqb-true, eqb-false}
-use Rattle.strangers.specs.Letters.{letter}
-use Rattle.strangers.proofs.Lettering.{at, write_none, write_many, write_second, write_first, same_without, with_one}
+use Rattle.std.proofs.Common.{map, length, vec_items, vec_capacity, sym, ap, ◌∙◌, arith}
+use Rattle.std.specs.Option.{option_map, option_to_list}
+use Rattle.sinks.specs.Sinks.{write_told}
+use Rattle.strangers.specs.Letters.{letter, rules_at}
+use Rattle.strangers.proofs.Lettering.{one_too_many}
 use Rattle.strangers.proofs.letters.LettersSink.write.Goals as goal
 
-pub returns-then-is_empty : goal.returns-then-is_empty
-returns-then-is_empty c =
+pub returns-in_default-clause-answer : goal.returns-in_default-clause-answer
+returns-in_default-clause-answer c =
     let s = c.args.self.now in
-    let list = map letter (vec_items s.letters) in
-    let none = eqb-true (length c.args.bytes.now) 0 (sym c.if-is_empty.ensures) in
-    record { answer = write_none (vec_capacity s.letters) list s.byte s.begun c.args.bytes.now c.if-not-self.false none; holds = same_without (at list s.byte s.begun) c.args.bytes.now none; stays = refl }
+    let some = ap (λ o. length (option_to_list o)) c.in_default.is-0 in
+    one_too_many (vec_capacity s.letters) (map letter (vec_items s.letters)) c.in_ok-byte.byte c.args.bytes.now (omega arith) (omega (arith, some))
+    ∙ ap (λ p. write_told (rules_at (vec_capacity s.letters)) (record { list = map letter (vec_items s.letters); pending = option_map option_to_list p }) c.args.bytes.now) (sym c.in_ok-byte.ensures.ok_part)
 
-pub returns-then-bytes-gt1 : goal.returns-then-bytes-gt1
-returns-then-bytes-gt1 c =
+pub returns-in_default-2-clause-answer : goal.returns-in_default-2-clause-answer
+returns-in_default-2-clause-answer c =
     let s = c.args.self.now in
-    record { answer = write_many (vec_capacity s.letters) (map letter (vec_items s.letters)) s.byte s.begun c.args.bytes.now c.if-not-self.false c.if-bytes-gt1.true; holds = refl; stays = refl }
-
-pub returns-in-Some : goal.returns-in-Some
-returns-in-Some c =
-    let s = c.args.self.now in
-    let some : 0 < length c.args.bytes.now = omega (arith, eqb-false (length c.args.bytes.now) 0 (sym c.if-is_empty.ensures)) in
-    record { answer = write_second (vec_capacity s.letters) (map letter (vec_items s.letters)) s.byte s.begun c.in-Some.field-0 c.args.bytes.now c.if-not-self.false c.in-Some.is some; holds = refl; stays = refl }
-
-pub returns : goal.returns
-returns c =
-    let s = c.args.self.now in
-    let list = map letter (vec_items s.letters) in
-    let one : length c.args.bytes.now ≡ 1 = omega (arith, eqb-false (length c.args.bytes.now) 0 (sym c.if-is_empty.ensures)) in
-    record { answer = write_first (vec_capacity s.letters) list s.byte s.begun c.args.bytes.now c.if-not-self.false c.in_default.is one; holds = with_one list s.byte s.begun c.args.bytes.now c.if-not-self.false c.in_default.is one; stays = refl }
+    one_too_many (vec_capacity s.letters) (map letter (vec_items s.letters)) c.in_ok-byte.byte c.args.bytes.now (omega arith) (omega arith)
+    ∙ ap (λ p. write_told (rules_at (vec_capacity s.letters)) (record { list = map letter (vec_items s.letters); pending = option_map option_to_list p }) c.args.bytes.now) (sym c.in_ok-byte.ensures.ok_part)
