@@ -6,7 +6,8 @@ ghost use Rattle.std.specs.Option.{option_map};
 ghost use Rattle.utf8.specs.States.{classed, lists, ranges};
 ghost use Rattle.utf8.specs.Utf8.{behind, utf8, utf8_from, Characters};
 
-// The classes of bytes, in the order of the bytes. 4 and 13 are of those that no text has: C0, C1, and F5 to FF.
+// The classes of bytes, in the order of the bytes: numbers and no enum, since the whole table is held to one computed rule, and a span of classes is
+// two bounds. 4 and 13 are of those that no text has: C0, C1, and F5 to FF.
 const ASCII: u8 = 0;
 
 // 80 to 8F, 90 to 9F and A0 to BF continue a character
