@@ -7,7 +7,7 @@ use std::process::Abort;
 use std::test::Fail;
 use text::Refusal;
 
-// The number of an answer, 0 for yes.
+// The number of an answer as callers see it, 0 for yes: what the tests expect are these numbers.
 fn number(told: Result<(), Refusal>) -> u8 {
     match told {
         Ok(()) => 0,
