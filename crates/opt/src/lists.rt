@@ -1,4 +1,4 @@
-// Options whose argument is a list of words with commas.
+// Options whose argument is a list of words with commas. Two lines each: a function over both would have to be handed the flag as a function.
 ghost use Rattle.std.specs.Prelude.{◌≡◌, ◌<◌, ◌≤◌, length, Some, None};
 ghost use Rattle.std.specs.Option.{option_map};
 ghost use Rattle.opt.specs.Opt.{placed, onward, crate_type_of, crate_types_of, emit_of, emits_of};

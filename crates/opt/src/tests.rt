@@ -1,74 +1,102 @@
 use super::*;
-use flags::Flag;
-use words::WordSet;
+use flags::{Flag, ModifierList};
+use words::{LibraryKind, LinkKind};
 
-// A part that may be missing, as `-` if it is.
-fn part(value: Option<&[u8]>) -> &[u8] {
-    match value {
-        Some(value) => value,
-        None => b"-",
-    }
-}
-
-// Two parts of a flag, or `?` and `?` for no flag.
-fn two_of(flag: Option<Flag<'_>>) -> (&[u8], &[u8]) {
-    match flag {
-        Some(Flag::Cfg { name, value }) => (name, part(value)),
-        Some(Flag::LibrarySearchPath { kind, path }) => (kind.spelling(), path),
-        Some(Flag::Link { name, rename, .. }) => (name, part(rename)),
-        Some(Flag::Extern { name, path }) => (name, part(path)),
-        Some(Flag::ExternLocation { name, location }) => (name, location),
-        Some(Flag::RemapPathPrefix { from, to }) => (from, to),
-        _ => (b"?", b"?"),
-    }
+fn condition<'a>(name: &'a [u8], value: Option<&'a [u8]>) -> Option<Flag<'a>> {
+    Some(Flag::Cfg { name, value })
 }
 
 #[test]
 fn conditions(rt: HostRuntime) {
-    let cases: [(&[u8], &[u8], &[u8]); 8] = [
-        (b"a", b"a", b"-"),
-        (b"a=\"b=c\"", b"a", b"b=c"),
-        (b"a=\"\"", b"a", b""),
-        (b"a=\"", b"?", b"?"),
-        (b"a=\"b", b"?", b"?"),
-        (b"a=\"b\"c\"", b"?", b"?"),
-        (b"a=b", b"?", b"?"),
-        (b"\xff", b"?", b"?"),
+    let cases: [(&[u8], Option<Flag<'_>>); 8] = [
+        (b"a", condition(b"a", None)),
+        (b"a=\"b=c\"", condition(b"a", Some(b"b=c"))),
+        (b"a=\"\"", condition(b"a", Some(b""))),
+        (b"a=\"", None),
+        (b"a=\"b", None),
+        (b"a=\"b\"c\"", None),
+        (b"a=b", None),
+        (b"\xff", None),
     ];
-    for (arg, name, value) in cases {
-        let (n, v) = two_of(cfg(arg));
-        assert!(rt; n == name && v == value);
+    for (arg, flag) in cases {
+        assert!(rt; cfg(arg) == flag);
     }
+}
+
+fn linked<'a>(
+    kind: LinkKind,
+    text: &'a [u8],
+    name: &'a [u8],
+    rename: Option<&'a [u8]>,
+) -> Option<Flag<'a>> {
+    Some(Flag::Link {
+        kind,
+        modifiers: ModifierList { text },
+        name,
+        rename,
+    })
 }
 
 #[test]
 fn pairs(rt: HostRuntime) {
-    let cases: [(Option<Flag<'_>>, &[u8], &[u8]); 12] = [
-        (library_search_path(b"a/b"), b"all", b"a/b"),
-        (library_search_path(b"native=a=b"), b"native", b"a=b"),
-        (library_search_path(b"a=b"), b"?", b"?"),
-        (link(b"a:b"), b"a", b"b"),
-        (link(b"static:+bundle=a"), b"a", b"-"),
-        (link(b"a=b"), b"?", b"?"),
-        (extern_(b"a=\xff"), b"a", b"\xff"),
-        (extern_(b"\xff=a"), b"?", b"?"),
-        (extern_location(b"a=b=c"), b"a", b"b=c"),
-        (extern_location(b"a"), b"?", b"?"),
-        (remap_path_prefix(b"a=b=c"), b"a=b", b"c"),
-        (remap_path_prefix(b"a"), b"?", b"?"),
+    let cases = [
+        (
+            library_search_path(b"a/b"),
+            Some(Flag::LibrarySearchPath {
+                kind: LibraryKind::All,
+                path: b"a/b",
+            }),
+        ),
+        (
+            library_search_path(b"native=a=b"),
+            Some(Flag::LibrarySearchPath {
+                kind: LibraryKind::Native,
+                path: b"a=b",
+            }),
+        ),
+        (library_search_path(b"a=b"), None),
+        (link(b"a:b"), linked(LinkKind::Dylib, b"", b"a", Some(b"b"))),
+        (
+            link(b"static:+bundle=a"),
+            linked(LinkKind::Static, b"+bundle", b"a", None),
+        ),
+        (link(b"a=b"), None),
+        (
+            extern_(b"a=\xff"),
+            Some(Flag::Extern {
+                name: b"a",
+                path: Some(b"\xff"),
+            }),
+        ),
+        (extern_(b"\xff=a"), None),
+        (
+            extern_location(b"a=b=c"),
+            Some(Flag::ExternLocation {
+                name: b"a",
+                location: b"b=c",
+            }),
+        ),
+        (extern_location(b"a"), None),
+        (
+            remap_path_prefix(b"a=b=c"),
+            Some(Flag::RemapPathPrefix {
+                from: b"a=b",
+                to: b"c",
+            }),
+        ),
+        (remap_path_prefix(b"a"), None),
     ];
-    for (flag, front, back) in cases {
-        let (f, b) = two_of(flag);
-        assert!(rt; f == front && b == back);
+    for (made, flag) in cases {
+        assert!(rt; made == flag);
     }
 }
 
 #[test]
 fn years(rt: HostRuntime) {
-    let cases: [(&[u8], Option<u16>); 8] = [
-        (b"2021", Some(2021)),
-        (b"+0007", Some(7)),
-        (b"65535", Some(65535)),
+    let cases: [(&[u8], Option<Flag<'_>>); 8] = [
+        (b"2021", Some(Flag::Edition(2021))),
+        (b"+0007", Some(Flag::Edition(7))),
+        (b"65535", Some(Flag::Edition(65535))),
         (b"65536", None),
         (b"", None),
         (b"+", None),
@@ -76,10 +104,6 @@ fn years(rt: HostRuntime) {
         (b"-1", None),
     ];
     for (arg, year) in cases {
-        let read = match edition(arg) {
-            Some(Flag::Edition(n)) => Some(n),
-            _ => None,
-        };
-        assert!(rt; read == year);
+        assert!(rt; edition(arg) == year);
     }
 }

@@ -1,14 +1,6 @@
 use super::*;
-use flags::{Flag, equal};
+use flags::Flag;
 use words::{Color, CrateType, Emit, ErrorFormat, LintLevel};
-
-fn same(a: Option<Flag<'_>>, b: Option<Flag<'_>>) -> bool {
-    match (a, b) {
-        (Some(a), Some(b)) => equal(a, b),
-        (None, None) => true,
-        _ => false,
-    }
-}
 
 #[test]
 fn whole(rt: HostRuntime) {
@@ -40,32 +32,30 @@ fn whole(rt: HostRuntime) {
         (color(b"never,auto"), None),
     ];
     for (made, right) in cases {
-        assert!(rt; same(made, right));
+        assert!(rt; made == right);
     }
 }
 
 #[test]
 fn lists(rt: HostRuntime) {
     let cases = [
-        (crate_type(b"lib"), Some(Flag::CrateType(CrateType::Lib)), 3),
+        (
+            crate_type(b"lib"),
+            Some((Flag::CrateType(CrateType::Lib), 3)),
+        ),
         (
             crate_type(b"Cdylib,cdylib,bin"),
-            Some(Flag::CrateType(CrateType::Cdylib)),
-            14,
+            Some((Flag::CrateType(CrateType::Cdylib), 14)),
         ),
-        (crate_type(b"asm,lib "), None, 99),
-        (crate_type(b""), None, 99),
-        (emit(b"zz,link,,asm"), Some(Flag::Emit(Emit::Link)), 8),
-        (emit(b",asm"), Some(Flag::Emit(Emit::Asm)), 4),
-        (emit(b"\xff,mir,"), Some(Flag::Emit(Emit::Mir)), 6),
-        (emit(b"asm=a.s"), None, 99),
-        (emit(b",,"), None, 99),
+        (crate_type(b"asm,lib "), None),
+        (crate_type(b""), None),
+        (emit(b"zz,link,,asm"), Some((Flag::Emit(Emit::Link), 8))),
+        (emit(b",asm"), Some((Flag::Emit(Emit::Asm), 4))),
+        (emit(b"\xff,mir,"), Some((Flag::Emit(Emit::Mir), 6))),
+        (emit(b"asm=a.s"), None),
+        (emit(b",,"), None),
     ];
-    for (made, right, behind) in cases {
-        let (flag, place) = match made {
-            Some((flag, place)) => (Some(flag), place),
-            None => (None, 99),
-        };
-        assert!(rt; same(flag, right) && place == behind);
+    for (made, right) in cases {
+        assert!(rt; made == right);
     }
 }

@@ -1,16 +1,28 @@
 use super::*;
 use tables::Rustc;
 
-// The numbers of the kinds of a text's first flags, each with 100 more where the text is read to its end then; 99 and 199 are no flag.
-fn told(text: &[u8]) -> [u8; 4] {
-    let mut out = [0; 4];
+// The number of the kind of a flag, if there was one, and whether the text is read to its end then.
+type Told = (Option<u8>, bool);
+
+fn flag(kind: u8) -> Told {
+    (Some(kind), false)
+}
+
+fn last(kind: u8) -> Told {
+    (Some(kind), true)
+}
+
+fn none() -> Told {
+    (None, true)
+}
+
+// What a text's first four reads tell.
+fn told(text: &[u8]) -> [Told; 4] {
+    let mut out = [(None, false); 4];
     if let Ok(mut cursor) = Cursor::open(text) {
         for place in &mut out {
-            let kind = match cursor.next(text, &Rustc) {
-                Some(flag) => flag.kind().number(),
-                None => 99,
-            };
-            *place = if cursor.ended(text) { kind + 100 } else { kind };
+            let kind = cursor.next(text, &Rustc).map(|flag| flag.kind().number());
+            *place = (kind, cursor.ended(text));
         }
     }
     out
@@ -18,29 +30,34 @@ fn told(text: &[u8]) -> [u8; 4] {
 
 #[test]
 fn reads(rt: HostRuntime) {
-    let cases: [(&[u8], [u8; 4]); 16] = [
-        (b"", [199, 199, 199, 199]),
-        (b"-hV", [0, 121, 199, 199]),
-        (b"-h\x1f", [0, 199, 199, 199]),
-        (b"--help\x1f", [100, 199, 199, 199]),
-        (b"-A", [199, 199, 199, 199]),
-        (b"--allow", [114, 199, 199, 199]),
-        (b"-o\x1f\x1f-h", [9, 100, 199, 199]),
-        (b"--help=x\x1f-v", [122, 199, 199, 199]),
-        (b"--\x1f-h", [199, 199, 199, 199]),
-        (b"--emit=zz,link,,asm\x1f-h", [7, 7, 100, 199]),
-        (b"--emit=link,asm", [7, 107, 199, 199]),
-        (b"--emit=link\x1f-gO", [7, 20, 120, 199]),
-        (b"-L\x1fx=y\x1f-h", [100, 199, 199, 199]),
-        (b"-hx-V\x1f-V", [0, 121, 199, 199]),
+    let cases: [(&[u8], [Told; 4]); 16] = [
+        (b"", [none(), none(), none(), none()]),
+        (b"-hV", [flag(0), last(21), none(), none()]),
+        (b"-h\x1f", [flag(0), none(), none(), none()]),
+        (b"--help\x1f", [last(0), none(), none(), none()]),
+        (b"-A", [none(), none(), none(), none()]),
+        (b"--allow", [last(14), none(), none(), none()]),
+        (b"-o\x1f\x1f-h", [flag(9), last(0), none(), none()]),
+        (b"--help=x\x1f-v", [last(22), none(), none(), none()]),
+        (b"--\x1f-h", [none(), none(), none(), none()]),
+        (
+            b"--emit=zz,link,,asm\x1f-h",
+            [flag(7), flag(7), last(0), none()],
+        ),
+        (b"--emit=link,asm", [flag(7), last(7), none(), none()]),
+        (b"--emit=link\x1f-gO", [flag(7), flag(20), last(20), none()]),
+        (b"-L\x1fx=y\x1f-h", [last(0), none(), none(), none()]),
+        (b"-hx-V\x1f-V", [flag(0), last(21), none(), none()]),
         (
             b"x\x1f\x1f-\x1f\xff\x1f-\xff\x1f-Cb=c=d",
-            [120, 199, 199, 199],
+            [last(20), none(), none(), none()],
         ),
-        (b"--edition=65536\x1f--edition=65535", [106, 199, 199, 199]),
+        (
+            b"--edition=65536\x1f--edition=65535",
+            [last(6), none(), none(), none()],
+        ),
     ];
     for (text, expected) in cases {
-        let out = told(text);
-        assert!(rt; &out[..] == &expected[..]);
+        assert!(rt; told(text) == expected);
     }
 }

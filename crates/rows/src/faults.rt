@@ -53,7 +53,7 @@ impl Names<'_> {
         self.inside(row) && is_name(self.name_of(row)) && row.known_code().is_some()
     }
 
-    // Whether each row is good and begins at or behind the end of the one before it.
+    // Whether each row is good and begins at or behind the end of the one before it. The place is carried along, which a fold says no plainer.
     fn are_good(&self) -> bool
         ensures { result ≡ (in_order 0 self.now.rows.now && list_all (good_row self.now.text.now) self.now.rows.now) }
     {
