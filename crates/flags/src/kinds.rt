@@ -67,7 +67,7 @@ pub enum Takes {
 }
 
 impl Kind {
-    // The number of the kind's own code.
+    // The number of the kind's own code. A method that cannot fail is as plain as `From`.
     pub fn number(self) -> u8
         ensures { result ≡ (about (Code.Of self)).number }
     {

@@ -10,10 +10,6 @@ fn row(offset: usize, length: usize, code: u8) -> Row {
     }
 }
 
-fn number(found: Option<Code>) -> Option<u8> {
-    found.map(|code| code.number())
-}
-
 // rustc's letters, and the home spellings of their kinds.
 #[test]
 fn letters(rt: HostRuntime) {
@@ -58,7 +54,7 @@ fn letters(rt: HostRuntime) {
         (b"", None),
     ];
     for (name, code) in names {
-        assert_eq!(rt; number(table.lookup_long(name)), code);
+        assert_eq!(rt; table.lookup_long(name).map(Code::number), code);
     }
 }
 
@@ -66,9 +62,9 @@ fn letters(rt: HostRuntime) {
 fn known<'a>(text: &'a [u8], rows: &'a [Row]) -> (Option<u8>, Option<u8>, Option<u8>) {
     let table = HouseTable::new(text, rows);
     (
-        number(table.lookup_short(b'O')),
-        number(table.lookup_short(b'Z')),
-        number(table.lookup_long(b"help")),
+        table.lookup_short(b'O').map(Code::number),
+        table.lookup_short(b'Z').map(Code::number),
+        table.lookup_long(b"help").map(Code::number),
     )
 }
 

@@ -44,7 +44,7 @@ impl<'a> Joined<'a> {
         self.start.ok_or(Refusal::OutOfTurn)
     }
 
-    // Declines a call that no open argument allows.
+    // Declines a call that no open argument allows. The sheet has the same test over fields of its own; the two share no state to be generic over.
     pub(crate) fn check_shut(&self) -> Result<(), Refusal>
         ensures answer { verdict result ≡ cut_told (held self.now) }
         ensures shut { OnOk result (self.now.start ≡ None) }

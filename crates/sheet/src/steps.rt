@@ -31,7 +31,7 @@ impl<'a> Sheet<'a> {
         &self.bytes[from..from + usize::from(length)]
     }
 
-    // Declines a call that no open argument allows.
+    // Declines a call that no open argument allows. The joined sink has the same test over fields of its own; the two share no state to be generic over.
     pub(crate) fn check_shut(&self) -> Result<(), Refusal>
         ensures answer { verdict result ≡ cut_told (held self.now) }
         ensures shut { verdict result ≡ None → self.now.pending ≡ None }

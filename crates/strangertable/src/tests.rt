@@ -2,10 +2,6 @@ use super::*;
 use flags::{Code, Kind};
 use tables::{Rustc, Table, knows};
 
-fn number(code: Option<Code>) -> Option<u8> {
-    code.map(|code| code.number())
-}
-
 #[test]
 fn knows_one_kind(rt: HostRuntime) {
     for place in 0..33u8 {
@@ -14,8 +10,8 @@ fn knows_one_kind(rt: HostRuntime) {
             assert!(rt; knows(&Rustc, kind));
         }
     }
-    assert_eq!(rt; number(OnlyZ.lookup_short(b'Z')), Some(26));
-    assert_eq!(rt; number(OnlyZ.lookup_long(b"Z")), None);
+    assert_eq!(rt; OnlyZ.lookup_short(b'Z').map(Code::number), Some(26));
+    assert_eq!(rt; OnlyZ.lookup_long(b"Z").map(Code::number), None);
 }
 
 #[test]
@@ -41,7 +37,7 @@ fn looks_up_letters(rt: HostRuntime) {
         (0xff, None),
     ];
     for (letter, code) in cases {
-        assert_eq!(rt; number(Rustc.lookup_short(letter)), code);
+        assert_eq!(rt; Rustc.lookup_short(letter).map(Code::number), code);
     }
 }
 
@@ -64,6 +60,6 @@ fn looks_up_names(rt: HostRuntime) {
         (b"\xff", None),
     ];
     for (name, code) in cases {
-        assert_eq!(rt; number(Rustc.lookup_long(name)), code);
+        assert_eq!(rt; Rustc.lookup_long(name).map(Code::number), code);
     }
 }

@@ -30,7 +30,7 @@ pub enum Refusal {
 }
 
 impl Refusal {
-    // The number that callers see.
+    // The number that callers see. A method that cannot fail is as plain as `From`.
     pub fn number(self) -> u8
         ensures { result ≡ number_of self }
     {

@@ -1,4 +1,5 @@
-// Bytes of a text: where a byte stands, and the parts on its sides.
+// Bytes of a text: where a byte stands, and the parts on its sides. First and last are two functions each, as in the library: they differ in its call,
+// which one over both would have to be handed as a function.
 ghost use Rattle.std.specs.Prelude.{◌≡◌, ◌<◌, length, IfSome};
 ghost use Rattle.std.specs.Option.{option_map};
 ghost use Rattle.text.specs.Arguments.{piece_at, place_behind, CutAtEdges};

@@ -36,70 +36,61 @@ fn sets(rt: HostRuntime) {
     }
 }
 
-// What a word reads as, or `?`.
-fn again<W: WordSet>(bytes: &[u8]) -> &[u8] {
-    match read_word::<W>(bytes) {
-        Some(word) => word.spelling(),
-        None => b"?",
-    }
+// How the word is spelled that the bytes read as.
+fn again<W: WordSet>(bytes: &[u8]) -> Option<&'static [u8]> {
+    Some(read_word::<W>(bytes)?.spelling())
 }
 
 #[test]
 fn words(rt: HostRuntime) {
-    let cases: [(&[u8], &[u8]); 8] = [
-        (b"cdylib", b"cdylib"),
-        (b"Cdylib", b"?"),
-        (b"lib ", b"?"),
-        (b"li", b"?"),
-        (b"", b"?"),
-        (b"proc-macro", b"proc-macro"),
-        (b"proc-macros", b"?"),
-        (b"\xff", b"?"),
+    let cases: [(&[u8], Option<&[u8]>); 8] = [
+        (b"cdylib", Some(b"cdylib")),
+        (b"Cdylib", None),
+        (b"lib ", None),
+        (b"li", None),
+        (b"", None),
+        (b"proc-macro", Some(b"proc-macro")),
+        (b"proc-macros", None),
+        (b"\xff", None),
     ];
     for (bytes, word) in cases {
         assert!(rt; again::<CrateType>(bytes) == word);
     }
 }
 
-// The first word of a list and the place behind it, or `?`.
-fn first<W: WordSet>(list: &[u8]) -> (&[u8], usize) {
-    match next_word::<W>(list) {
-        Some((word, behind)) => (word.spelling(), behind),
-        None => (b"?", list.len()),
-    }
+// The first word of a list, as it is spelled, and the place behind it.
+fn first<W: WordSet>(list: &[u8]) -> Option<(&'static [u8], usize)> {
+    let (word, behind) = next_word::<W>(list)?;
+    Some((word.spelling(), behind))
 }
 
 #[test]
 fn lists(rt: HostRuntime) {
-    let cases: [(&[u8], &[u8], usize); 9] = [
-        (b"zz,link,,asm", b"link", 8),
-        (b",asm", b"asm", 4),
-        (b"asm,", b"asm", 4),
-        (b"asm", b"asm", 3),
-        (b"\xff,mir,obj", b"mir", 6),
-        (b"", b"?", 0),
-        (b",", b"?", 1),
-        (b"zz,llvm", b"?", 7),
-        (b"asm ,Obj", b"?", 8),
+    let cases: [(&[u8], Option<(&[u8], usize)>); 9] = [
+        (b"zz,link,,asm", Some((b"link", 8))),
+        (b",asm", Some((b"asm", 4))),
+        (b"asm,", Some((b"asm", 4))),
+        (b"asm", Some((b"asm", 3))),
+        (b"\xff,mir,obj", Some((b"mir", 6))),
+        (b"", None),
+        (b",", None),
+        (b"zz,llvm", None),
+        (b"asm ,Obj", None),
     ];
-    for (list, word, behind) in cases {
-        let (w, b) = first::<Emit>(list);
-        assert!(rt; w == word);
-        assert_eq!(rt; b, behind);
+    for (list, word) in cases {
+        assert!(rt; first::<Emit>(list) == word);
     }
 }
 
 #[test]
 fn modifiers(rt: HostRuntime) {
-    let cases: [(&[u8], &[u8], usize); 3] = [
-        (b"+bundle,-as-needed,bundle,+,-", b"+bundle", 8),
-        (b"-as-needed,bundle,+,-", b"-as-needed", 11),
-        (b"bundle,+,-", b"?", 10),
+    let cases: [(&[u8], Option<(&[u8], usize)>); 3] = [
+        (b"+bundle,-as-needed,bundle,+,-", Some((b"+bundle", 8))),
+        (b"-as-needed,bundle,+,-", Some((b"-as-needed", 11))),
+        (b"bundle,+,-", None),
     ];
-    for (list, word, behind) in cases {
-        let (w, b) = first::<Modifier>(list);
-        assert!(rt; w == word);
-        assert_eq!(rt; b, behind);
+    for (list, word) in cases {
+        assert!(rt; first::<Modifier>(list) == word);
     }
 }
 
