@@ -107,7 +107,10 @@ fn in_order<W: WordSet + PartialEq>(list: &[u8]) -> Option<usize> {
 #[test]
 fn known(rt: HostRuntime) {
     let cases: [(&[u8], Option<usize>); 6] = [
-        (b"asm,llvm-bc,llvm-ir,obj,metadata,link,dep-info,mir", Some(8)),
+        (
+            b"asm,llvm-bc,llvm-ir,obj,metadata,link,dep-info,mir",
+            Some(8),
+        ),
         (b"zz,asm,,llvm-bc,\xff", Some(2)),
         (b"asm,asm", None),
         (b"llvm-bc", None),
