@@ -92,5 +92,11 @@ fn codes(rt: HostRuntime) {
     assert_eq!(rt; Code::Optimize.number(), 32);
     assert!(rt; Kind::LibrarySearchPath.home() == b"-L".as_slice());
     assert!(rt; Kind::CrateType.home() == b"--crate-type".as_slice());
-    assert!(rt; Code::Debuginfo.bare_flag() == Some(Flag::Codegen { opt: b"debuginfo", value: Some(b"2") }));
+    assert!(rt;
+        Code::Debuginfo.bare_flag()
+            == Some(Flag::Codegen {
+                opt: b"debuginfo",
+                value: Some(b"2")
+            })
+    );
 }
