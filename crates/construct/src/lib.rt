@@ -20,7 +20,8 @@ fn whole<'a>(flag: Option<Flag<'a>>, arg: &'a [u8]) -> Option<(Flag<'a>, usize)>
 }
 
 // A flag and a place are a pair, as `next_word` gives: each caller takes it apart at once.
-// `-g` and `-O` share an arm. The kinds that take nothing have one each: with them in it too the proof does not close alone, and wants each case written out.
+// `-g` and `-O` share an arm. The kinds that take nothing have one each: with them in it too the proof does not close alone, and wants each
+// case written out.
 fn first_flag(code: Code, arg: &[u8]) -> Option<(Flag<'_>, usize)>
     ensures answer { option_map placed result ≡ first_made code arg.now }
     ensures all { all_made code arg.now ≡ from_first code arg.now (option_map placed result) }

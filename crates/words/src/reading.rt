@@ -25,7 +25,8 @@ fn spelled_at<W: WordSet>(place: usize, bytes: &[u8]) -> Option<W>
     W::at(place).filter(|word| word.spelling() == bytes)
 }
 
-// The word that these bytes spell. A loop, and no chain: the kit covers no `filter_map(W::at)` yet.
+// The word that these bytes spell. A loop: `find_map` over the places was tried, and the proof did not close, for std has no lemma that says what a run of a
+// range gives.
 pub fn read_word<W: WordSet>(bytes: &[u8]) -> Option<W>
     ensures answer { result ≡ read W.words W.spelled bytes.now }
     ensures exactly { ReadsExactly W.words W.spelled bytes.now }
