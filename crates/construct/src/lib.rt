@@ -19,7 +19,9 @@ fn whole<'a>(flag: Option<Flag<'a>>, arg: &'a [u8]) -> Option<(Flag<'a>, usize)>
     Some((flag?, arg.len()))
 }
 
-// The options that take nothing have an arm each: of one arm for all of them the proof does not close alone, and wants each case written out.
+// A flag and a place are a pair, as `next_word` gives: each caller takes it apart at once.
+// `-g` and `-O` share an arm. The kinds that take nothing have one each: with them in it too the proof does not close alone, and wants each
+// case written out.
 fn first_flag(code: Code, arg: &[u8]) -> Option<(Flag<'_>, usize)>
     ensures answer { option_map placed result ≡ first_made code arg.now }
     ensures all { all_made code arg.now ≡ from_first code arg.now (option_map placed result) }

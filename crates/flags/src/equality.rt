@@ -3,7 +3,8 @@ ghost use Rattle.flags.specs.Meaning.{meaning, TellsEqual};
 
 use super::flag::Flag;
 
-// Whether two flags mean the same: the same kind and fields, byte for byte, and of links the same known modifiers.
+// `==`, with a clause that says what it tells: whether two flags mean the same.
+// They do when they have the same kind and fields, byte for byte, and of links the same known modifiers.
 #[tactic(auto, using(crate::proofs::Same::told_by))]
 pub fn equal(a: Flag<'_>, b: Flag<'_>) -> bool
     ensures { TellsEqual result (meaning a.entry) (meaning b.entry) }

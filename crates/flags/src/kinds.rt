@@ -67,7 +67,7 @@ pub enum Takes {
 }
 
 impl Kind {
-    // The number of the kind's own code. A method that cannot fail is as plain as `From`.
+    // The number of the kind's own code. A method, so that callers can name it: `map(Kind::number)`.
     pub fn number(self) -> u8
         ensures { result ≡ (about (Code.Of self)).number }
     {
@@ -159,6 +159,7 @@ impl Code {
         Code::ALL.get(place).copied()
     }
 
+    // A method too: `map(Code::number)`.
     pub fn number(self) -> u8
         ensures { result ≡ (about self).number }
     {

@@ -1,5 +1,4 @@
 use super::*;
-use std::test::Fail;
 use words::{CrateType, LibraryKind, LinkKind};
 
 #[test]
@@ -88,24 +87,16 @@ fn fields(rt: HostRuntime) {
 }
 
 #[test]
-fn codes(rt: HostRuntime) -> Result<(), Fail> {
+fn codes(rt: HostRuntime) {
     assert_eq!(rt; Kind::RemapPathPrefix.number(), 30);
     assert_eq!(rt; Code::Optimize.number(), 32);
     assert!(rt; Kind::LibrarySearchPath.home() == b"-L".as_slice());
     assert!(rt; Kind::CrateType.home() == b"--crate-type".as_slice());
-    match Code::Debuginfo.bare_flag() {
-        Some(flag) => {
-            assert!(rt;
-                equal(
-                    flag,
-                    Flag::Codegen {
-                        opt: b"debuginfo",
-                        value: Some(b"2"),
-                    },
-                )
-            );
-            Ok(())
-        },
-        None => Err(Fail::new("no flag")),
-    }
+    assert!(rt;
+        Code::Debuginfo.bare_flag()
+            == Some(Flag::Codegen {
+                opt: b"debuginfo",
+                value: Some(b"2")
+            })
+    );
 }

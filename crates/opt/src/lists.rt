@@ -1,5 +1,5 @@
 // Options whose argument is a list of words with commas. Two lines each: a function over both would have to be handed the flag as a function.
-ghost use Rattle.std.specs.Prelude.{◌≡◌, ◌<◌, ◌≤◌, length, Some, None};
+ghost use Rattle.std.specs.Prelude.{◌≡◌, ◌<◌, ◌≤◌, length, IfSome};
 ghost use Rattle.std.specs.Option.{option_map};
 ghost use Rattle.opt.specs.Opt.{placed, onward, crate_type_of, crate_types_of, emit_of, emits_of};
 
@@ -9,7 +9,7 @@ use words::next_word;
 // The flag of the first known word, and the place behind it and its comma.
 pub fn crate_type(list: &[u8]) -> Option<(Flag<'_>, usize)>
     ensures answer { option_map placed result ≡ crate_type_of list.now }
-    ensures within { elim result [ Some p ↦ (0 < p.1) × (p.1 ≤ length list.now) | None ↦ Unit {0} ] }
+    ensures within { IfSome result (λ p. (0 < p.1) × (p.1 ≤ length list.now)) }
     ensures whole { crate_types_of list.now ≡ onward crate_types_of list.now (option_map placed result) }
 {
     let (word, behind) = next_word(list)?;
@@ -19,7 +19,7 @@ pub fn crate_type(list: &[u8]) -> Option<(Flag<'_>, usize)>
 // The flag of the first known word, and the place behind it and its comma.
 pub fn emit(list: &[u8]) -> Option<(Flag<'_>, usize)>
     ensures answer { option_map placed result ≡ emit_of list.now }
-    ensures within { elim result [ Some p ↦ (0 < p.1) × (p.1 ≤ length list.now) | None ↦ Unit {0} ] }
+    ensures within { IfSome result (λ p. (0 < p.1) × (p.1 ≤ length list.now)) }
     ensures whole { emits_of list.now ≡ onward emits_of list.now (option_map placed result) }
 {
     let (word, behind) = next_word(list)?;

@@ -30,7 +30,7 @@ pub enum Refusal {
 }
 
 impl Refusal {
-    // The number that callers see. A method that cannot fail is as plain as `From`.
+    // The number that callers see. A method, so that callers can name it: `map_err(Refusal::number)`.
     pub fn number(self) -> u8
         ensures { result ≡ number_of self }
     {

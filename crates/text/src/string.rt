@@ -1,5 +1,5 @@
-// Bytes of a text: where a byte stands, and the parts on its sides. First and last are two functions each, as in the library: they differ in its call,
-// which one over both would have to be handed as a function.
+// Bytes of a text: where a byte stands, and the parts on its sides.
+// A search from the front and one from the back are two functions each, as in the library: they differ only in which of its methods they call.
 ghost use Rattle.std.specs.Prelude.{◌≡◌, ◌<◌, length, IfSome};
 ghost use Rattle.std.specs.Option.{option_map};
 ghost use Rattle.text.specs.Arguments.{piece_at, place_behind, CutAtEdges};
@@ -34,6 +34,7 @@ pub fn contains(bytes: &[u8], byte: u8) -> bool
     bytes.contains(&byte)
 }
 
+// As `find`, and that the place is inside, which the cut asks for.
 fn position(bytes: &[u8], byte: u8) -> Option<usize>
     ensures place { result ≡ first_place byte bytes.now }
     ensures within { IfSome result (λ at. at < length bytes.now) }
@@ -41,6 +42,7 @@ fn position(bytes: &[u8], byte: u8) -> Option<usize>
     bytes.iter().position(|b| *b == byte)
 }
 
+// As `rfind`, and that the place is inside, which the cut asks for.
 fn last_position(bytes: &[u8], byte: u8) -> Option<usize>
     ensures place { result ≡ last_place byte bytes.now }
     ensures within { IfSome result (λ at. at < length bytes.now) }

@@ -1,30 +1,17 @@
 -- A comma list, part by part. Assumes nothing.
-use Rattle.std.proofs.Common.{◌≡◌, ℕ, zero, suc, ◌+◌, ◌<◌, ◌≤◌, Bool, true, false, cond, eqb, List, [], ◌∷◌, ◌++◌, map, length, drop, Some, None, Option, sym, refl, ap, ◌∙◌, ⊎_elim, le_refl, arith, length-append, length-drop}
+use Rattle.std.proofs.Common.{◌≡◌, ℕ, zero, suc, ◌+◌, ◌<◌, ◌≤◌, true, List, [], ◌∷◌, ◌++◌, map, length, drop, Some, None, Option, sym, refl, ap, ◌∙◌, ⊎_elim, le_refl, arith, length-append, length-drop}
 use Rattle.std.specs.Option.{option_map}
 use Rattle.std.specs.List.{AllByRecursion}
 use Rattle.std.proofs.lemmas.Bool.{and_parts, cases_lt, not-true, false≢true}
 use Rattle.std.proofs.lemmas.List.{drop_all, drop-drop, drop_at}
-use Rattle.text.specs.Arguments.{Whole, onto_first, pieces, piece_at, place_behind}
-use Rattle.text.specs.Cuts.{Halves, with_front, cut_first}
+use Rattle.text.specs.Arguments.{Whole, pieces, piece_at, place_behind}
+use Rattle.text.specs.Cuts.{Halves, cut_first}
 use Rattle.text.proofs.Cutting.{cut_first_whole}
 use Rattle.text.proofs.Joining.{length-pieces, pieces-joined}
+use Rattle.text.proofs.Walking.{pieces_split, pieces_uncut}
 use Rattle.words.specs.Lists.{comma, Reads, known_in, known, first_in, first_known, from_first, first_from, ListsReadBack, Ended, Part}
 use Rattle.words.specs.Reading.{read, clean}
 use Rattle.words.proofs.Spelled.{read_nothing}
-
-module _ (b : ℕ) where
-  abbrev by_cut : Option Halves → List ℕ → List (List ℕ)
-  by_cut o bs = elim o [ Some p ↦ p.0 ∷ pieces b p.1 | None ↦ bs ∷ [] ]
-
-  by_cut_more : (x : ℕ) (xs : List ℕ) (t : Bool) (o : Option Halves) → cond t ([] ∷ pieces b xs) (onto_first x (by_cut o xs)) ≡ by_cut (cond t (Some ([], xs)) (option_map (with_front x) o)) (x ∷ xs)
-  by_cut_more x xs true o = refl
-  by_cut_more x xs false None = refl
-  by_cut_more x xs false (Some q) = refl
-
-  -- the first piece, and the pieces behind its b
-  pieces_by_cut : (bs : List ℕ) → pieces b bs ≡ by_cut (cut_first b bs) bs
-  pieces_by_cut [] = refl
-  pieces_by_cut (x ∷ xs) = ap (λ ps. cond (eqb x b) ([] ∷ pieces b xs) (onto_first x ps)) (pieces_by_cut xs) ∙ by_cut_more x xs (eqb x b) (cut_first b xs)
 
 abbrev told : {W X : Type 0} → Option W → (W → X) → X → X
 told o f x = elim o [ Some w ↦ f w | None ↦ x ]
@@ -63,7 +50,7 @@ module _ {W : Type 0} (reads : Reads W) where
         rest = sym (drop-drop 1 (at + length p.0) list) ∙ ap (drop 1) (sym (drop-drop (length p.0) at list) ∙ ap (drop (length p.0)) split ∙ drop_at p.0 (comma ∷ p.1) _ refl)
 
         parts : pieces comma (drop at list) ≡ p.0 ∷ pieces comma (drop behind list)
-        parts = pieces_by_cut comma (drop at list) ∙ ap (λ o. by_cut comma o (drop at list)) cut ∙ ap (λ l. p.0 ∷ pieces comma l) (sym rest)
+        parts = pieces_split comma (drop at list) p cut ∙ ap (λ l. p.0 ∷ pieces comma l) (sym rest)
 
         some : 0 < length (pieces comma (drop behind list))
         some = omega (arith, length-pieces comma (drop behind list))
@@ -80,7 +67,7 @@ module _ {W : Type 0} (reads : Reads W) where
 
       module _ (cut : cut_first comma (drop at list) ≡ None) where
         alone : pieces comma (drop at list) ≡ drop at list ∷ []
-        alone = pieces_by_cut comma (drop at list) ∙ ap (λ o. by_cut comma o (drop at list)) cut
+        alone = pieces_uncut comma (drop at list) cut
 
         end : Ended reads list (length list)
         end = ended (length list) (le_refl _)

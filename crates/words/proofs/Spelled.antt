@@ -5,7 +5,8 @@ use Rattle.std.specs.Bool.{then_some}
 use Rattle.std.specs.Option.{MatchOption}
 use Rattle.std.specs.Str.{bytes_eq}
 use Rattle.std.proofs.lemmas.Slice.Eq.{bytes_eq-Decides}
-use Rattle.std.proofs.lemmas.List.{drop_all}
+use Rattle.std.proofs.lemmas.List.{drop_all, at_drop_more}
+use Rattle.std.proofs.lemmas.Option.{slice_get_within, get_or_from_slice_get, slice_get_cases}
 use Rattle.std.proofs.lemmas.Bool.{cases_Bool, cases_lt, cond-true, cond-false, both_ways}
 use Rattle.words.specs.Reading.{read, longest, clean, ReadsExactly}
 
@@ -38,14 +39,7 @@ module _ {W : Type 0} (spelled : W → List ℕ) where
   reads_exactly ws reads bs w = (spelled_by ws bs w, λ e. ap (read ws spelled) e ∙ reads w)
 
   drop_here : (ws : List W) (i : ℕ) (w : W) → slice_get ws i ≡ Some w → drop i ws ≡ w ∷ drop (i + 1) ws
-  drop_here [] i w e = absurd (let z : ◌≡◌ {A = ℕ} 0 1 = cc in omega arith)
-  drop_here (v ∷ ws) zero w e = let same : v ≡ w = cc in ap (λ u. u ∷ ws) same
-  drop_here (v ∷ ws) (suc i) w e = drop_here ws i w e ∙ rw (add-one (suc i), add-one i)
-
-  none_here : (ws : List W) (i : ℕ) → slice_get ws i ≡ None → length ws ≤ i
-  none_here [] i e = omega arith
-  none_here (v ∷ ws) zero e = absurd (let z : ◌≡◌ {A = ℕ} 0 1 = cc in omega arith)
-  none_here (v ∷ ws) (suc i) e = omega (arith, none_here ws i e)
+  drop_here ws i w e = at_drop_more (λ l. l) ws i w (slice_get_within ws i w e) ∙ ap (λ v. v ∷ drop (i + 1) ws) (get_or_from_slice_get ws i w w e)
 
   -- no spelling is longer than the longest
   pub spelling_fits : (ws : List W) → ((w : W) → read ws spelled (spelled w) ≡ Some w) → (w : W) → length (spelled w) ≤ longest ws spelled
@@ -67,7 +61,10 @@ module _ {W : Type 0} (spelled : W → List ℕ) where
       read_other no' = ap (λ l. read l spelled bs) (drop_here ws i w here) ∙ cond-false _ _ _ (tested ∙ no')
 
     pub read_none : slice_get ws i ≡ None → read (drop i ws) spelled bs ≡ read (drop (i + 1) ws) spelled bs
-    read_none e = let past : length ws ≤ i = none_here ws i e in read_past ws bs i past ∙ sym (read_past ws bs (i + 1) (omega arith))
+    read_none e = ⊎_elim
+        (λ p. absurd (let same = sym e ∙ p.2 in let z : ◌≡◌ {A = ℕ} 0 1 = cc in omega arith))
+        (λ p. read_past ws bs i p.0 ∙ sym (read_past ws bs (i + 1) (omega (arith, p.0))))
+        (slice_get_cases ws i).1
 
     abbrev Tells : Option W → Type 0
     Tells r = elim r as (λ x. Type 0) [ Some w ↦ read (drop i ws) spelled bs ≡ Some w | None ↦ read (drop i ws) spelled bs ≡ read (drop (i + 1) ws) spelled bs ]

@@ -42,7 +42,8 @@ impl<W: WordSet> Iterator for KnownWords<'_, W> {
     }
 }
 
-// Whether the same words are left, in the same order.
+// Whether the same words are left, in the same order. `==` is written by hand: a derive would compare the text that is left, and not its words.
+// `Iterator::eq` says this only through a proof, which stands here once.
 fn same_words<W: WordSet + PartialEq>(a: KnownWords<'_, W>, b: KnownWords<'_, W>) -> bool
     ensures { result ≡ on (λ s. known (read W.words W.spelled) s.rest.now) (pointwise W.eq) a.entry b.entry }
 {

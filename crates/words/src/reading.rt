@@ -1,5 +1,5 @@
 // Words read from bytes and from comma lists.
-ghost use Rattle.std.specs.Prelude.{◌≡◌, ◌+◌, ◌<◌, ◌≤◌, length, drop, Some, None};
+ghost use Rattle.std.specs.Prelude.{◌≡◌, ◌+◌, ◌<◌, ◌≤◌, length, drop, Some, None, IfSome};
 ghost use Rattle.words.specs.Lists.{known, first_known, from_first, ListsReadBack, Ended, Part};
 ghost use Rattle.words.specs.Reading.{read, ReadsExactly};
 
@@ -25,7 +25,8 @@ fn spelled_at<W: WordSet>(place: usize, bytes: &[u8]) -> Option<W>
     W::at(place).filter(|word| word.spelling() == bytes)
 }
 
-// The word that these bytes spell. A loop, and no chain: the kit covers no `filter_map(W::at)` yet.
+// The word that these bytes spell. A loop: `find_map` over the places was tried, and the proof did not close, for std has no lemma that says what a run of a
+// range gives.
 pub fn read_word<W: WordSet>(bytes: &[u8]) -> Option<W>
     ensures answer { result ≡ read W.words W.spelled bytes.now }
     ensures exactly { ReadsExactly W.words W.spelled bytes.now }
@@ -50,10 +51,11 @@ fn part_at<W: WordSet>(list: &[u8], at: usize) -> Option<(&[u8], usize)>
     }
 }
 
-// The first part of a comma list that is a word of the set, and the place behind it and its comma.
+// The first part of a comma list that is a word of the set, and the place behind it and its comma. One nested loop over parts and words, left by its label:
+// the project's form.
 pub fn next_word<W: WordSet>(list: &[u8]) -> Option<(W, usize)>
     ensures answer { result ≡ first_known (read W.words W.spelled) list.now }
-    ensures within { elim result [ Some p ↦ (0 < p.1) × (p.1 ≤ length list.now) | None ↦ Unit {0} ] }
+    ensures within { IfSome result (λ p. (0 < p.1) × (p.1 ≤ length list.now)) }
     ensures whole { known (read W.words W.spelled) list.now ≡ from_first (read W.words W.spelled) list.now result }
     ensures back { ListsReadBack (read W.words W.spelled) W.spelled }
 {

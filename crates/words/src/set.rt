@@ -1,5 +1,6 @@
-// What a set of words is. Each set looks into a list of its own in `at`: one `at` for all would want the list lent by the trait, and a modifier has none,
-// since it is a sign and a word.
+// What a set of words is.
+// Each set looks into a list of its own in `at`. One `at` over a list that the trait lends was tried: it wants `Self: 'static`, and with this bound
+// the iterator of known words is not proved, since its provided methods ask for the bound anew.
 ghost use Rattle.std.specs.Prelude.{◌≡◌, ℕ, true, List, length, Some};
 ghost use Rattle.std.specs.List.{slice_get};
 ghost use Rattle.words.specs.Reading.{read, longest, clean};

@@ -94,27 +94,28 @@ fn modifiers(rt: HostRuntime) {
     }
 }
 
-// How many known words a list has, or 0 unless they are the set's first ones in their order.
-fn in_order<W: WordSet + PartialEq>(list: &[u8]) -> usize {
-    let mut place: usize = 0;
-    for word in known_words::<W>(list) {
+// How many known words a list has, if they are the set's first ones in their order.
+fn in_order<W: WordSet + PartialEq>(list: &[u8]) -> Option<usize> {
+    for (place, word) in known_words::<W>(list).enumerate() {
         if W::at(place) != Some(word) {
-            return 0;
+            return None;
         }
-        place = place.saturating_add(1);
     }
-    place
+    Some(known_words::<W>(list).count())
 }
 
 #[test]
 fn known(rt: HostRuntime) {
-    let cases: [(&[u8], usize); 6] = [
-        (b"asm,llvm-bc,llvm-ir,obj,metadata,link,dep-info,mir", 8),
-        (b"zz,asm,,llvm-bc,\xff", 2),
-        (b"asm,asm", 0),
-        (b"llvm-bc", 0),
-        (b",", 0),
-        (b"", 0),
+    let cases: [(&[u8], Option<usize>); 6] = [
+        (
+            b"asm,llvm-bc,llvm-ir,obj,metadata,link,dep-info,mir",
+            Some(8),
+        ),
+        (b"zz,asm,,llvm-bc,\xff", Some(2)),
+        (b"asm,asm", None),
+        (b"llvm-bc", None),
+        (b",", Some(0)),
+        (b"", Some(0)),
     ];
     for (list, count) in cases {
         assert_eq!(rt; in_order::<Emit>(list), count);
