@@ -9,7 +9,7 @@ ghost use Rattle.sheet.specs.State.{held, lasting};
 use super::state::Sheet;
 use text::Refusal;
 
-// Zeros in a part of a buffer.
+// Zeros in a part of a buffer. The clauses say of `fill` what its three callers need, so that no caller proves it anew.
 pub(crate) fn clear(bytes: &mut [u8], from: usize, to: usize)
     requires { (from ≤ to) × (to ≤ length bytes.old) }
     ensures front { take from bytes.new ≡ take from bytes.old }
@@ -20,6 +20,7 @@ pub(crate) fn clear(bytes: &mut [u8], from: usize, to: usize)
     bytes[from..to].fill(0);
 }
 
+// The clause `stays` compares a sink before and after a call, so no type can carry it.
 impl<'a> Sheet<'a> {
     // The argument of a row.
     pub(crate) fn at_row(&self, n: usize) -> &[u8]
@@ -31,7 +32,8 @@ impl<'a> Sheet<'a> {
         &self.bytes[from..from + usize::from(length)]
     }
 
-    // Declines a call that no open argument allows. The joined sink has the same test over fields of its own; the two share no state to be generic over.
+    // Declines a call that no open argument allows. The joined sink has the same three lines over a field of its own:
+    // one function over an Option would need a clause as long.
     pub(crate) fn check_shut(&self) -> Result<(), Refusal>
         ensures answer { verdict result ≡ cut_told (held self.now) }
         ensures shut { verdict result ≡ None → self.now.pending ≡ None }
@@ -66,7 +68,7 @@ impl<'a> Sheet<'a> {
         self.pending = Some(len + bytes.len());
     }
 
-    // The offset and the length of the open argument. Both are shown to fit, and `try_from` would ask for an answer that is never given.
+    // The offset and the length of the open argument. Both are proved to fit, so `try_from` would have an error that never comes.
     fn span(&self, len: usize) -> (u16, u16)
         requires { self.now.pending ≡ Some len }
         ensures { result ≡ (self.now.finished, len) }

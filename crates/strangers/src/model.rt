@@ -1,4 +1,5 @@
 // A plain model of the joined sink and of the sheet: lists of bytes, and the rules said once more in the simplest way.
+// One model for both: they differ in four places.
 use std::alloc::Global;
 use std::test::Fail;
 use text::Refusal;
