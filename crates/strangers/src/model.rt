@@ -32,7 +32,7 @@ impl Model {
     }
 
     // How many bytes the arguments have, with the separators of a joined sink.
-    fn used(&self) -> usize {
+    pub(crate) fn used(&self) -> usize {
         let arguments = self.list.iter().chain(self.pending.iter());
         let bytes = arguments.fold(0usize, |n, argument| n.saturating_add(argument.len()));
         match self.kind {
