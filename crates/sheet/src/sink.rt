@@ -89,7 +89,8 @@ impl<'a> Sink for Sheet<'a> {
     fn finish(&mut self, token: Token) -> Result<(), Refusal> {
         token.spend();
         let len = self.check_open()?;
-        self.pairs[self.count] = self.span(len);
+        // both are proved to fit, so `try_from` would have an error that never comes
+        self.pairs[self.count] = (self.finished as u16, len as u16);
         self.count += 1;
         self.finished += len;
         self.pending = None;
