@@ -171,10 +171,7 @@ module _ (s : Sheet) where
         subst (λ m. ClearFrom 0 s.limit m new) (sym (add-zero s.finished)) (row.clear_more 0 s.limit s.finished (s.finished + n) bytes new (omega arith) fit zeros (behind s.limit fit) was)
 
     -- the open argument gets its row
-    pub seal_zeros : ClearFrom 0 s.limit (s.finished + n + 0) bytes
-    seal_zeros = subst (λ m. ClearFrom 0 s.limit m bytes) (open_end ∙ sym (add-zero (s.finished + n))) s.zeros
-
-    module _ (p : ℕ × ℕ) (first : p.0 ≡ s.finished) (second : p.1 ≡ n) where
+    module _ (p : ℕ × ℕ) (is : p ≡ (s.finished, n)) where
       abbrev sealed : List (ℕ × ℕ)
       sealed = set pairs s.count p
 
@@ -187,6 +184,9 @@ module _ (s : Sheet) where
       pub seal_few : s.count + 1 ≤ length sealed
       seal_few = omega (arith, sealed_long, has_row)
 
+      pub seal_zeros : ClearFrom 0 s.limit (s.finished + n + 0) bytes
+      seal_zeros = subst (λ m. ClearFrom 0 s.limit m bytes) (open_end ∙ sym (add-zero (s.finished + n))) s.zeros
+
       pub seal_blank : ClearFrom (0, 0) (length sealed) (s.count + 1) sealed
       seal_blank =
           let same : drop (s.count + 1) sealed ≡ drop (s.count + 1) pairs = drop-set-lt (s.count + 1) pairs s.count p (omega arith) in
@@ -194,7 +194,7 @@ module _ (s : Sheet) where
           ∙ (λ i. replicate (sym sealed_long i - (s.count + 1)) (0, 0) ++ (drop_all (length pairs) pairs (omega arith) ∙ sym (drop_all (length sealed) sealed (omega arith))) i)
 
       rows_more : take (s.count + 1) sealed ≡ rows ++ (s.finished, n) ∷ []
-      rows_more = take_more_set pairs s.count p has_row ∙ (λ i. rows ++ (first i, second i) ∷ [])
+      rows_more = take_more_set pairs s.count p has_row ∙ ap (λ q. rows ++ q ∷ []) is
 
       pub seal_lined : chained 0 (take (s.count + 1) sealed) (s.finished + n) ≡ true
       seal_lined = row.chained_to 0 (take (s.count + 1) sealed) (s.finished + n) (subst (λ l. Chained 0 l (s.finished + n)) (sym rows_more) (row.chained_push 0 rows s.finished n chain))

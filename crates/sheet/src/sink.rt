@@ -89,8 +89,7 @@ impl<'a> Sink for Sheet<'a> {
     fn finish(&mut self, token: Token) -> Result<(), Refusal> {
         token.spend();
         let len = self.check_open()?;
-        // both are proved to fit, so `try_from` would have an error that never comes
-        self.pairs[self.count] = (self.finished as u16, len as u16);
+        self.pairs[self.count] = self.span(len);
         self.count += 1;
         self.finished += len;
         self.pending = None;

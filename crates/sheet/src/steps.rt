@@ -51,6 +51,14 @@ impl<'a> Sheet<'a> {
         Ok(())
     }
 
+    // The offset and the length of the open argument. Both are proved to fit, so `try_from` would have an error that never comes.
+    pub(crate) fn span(&self, len: usize) -> (u16, u16)
+        requires { self.now.pending ≡ Some len }
+        ensures { result ≡ (self.now.finished, len) }
+    {
+        (self.finished as u16, len as u16)
+    }
+
     // Drops the open argument, if there is one.
     pub(crate) fn drop_open(&mut self)
         ensures holds { held self.new ≡ withdrawn (held self.old) }
