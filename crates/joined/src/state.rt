@@ -6,6 +6,7 @@ ghost use Rattle.joined.specs.Parts.{ClearFrom, Text};
 
 #[derive(Drop)]
 pub struct Joined<'a> {
+    // lent by the caller, since no sink of ours takes from the heap: so the places stand beside it
     pub(crate) buffer: &'a mut [u8],
     // how many arguments are finished, and where their text ends
     pub(crate) count: usize,

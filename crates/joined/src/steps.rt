@@ -44,7 +44,8 @@ impl<'a> Joined<'a> {
         self.start.ok_or(Refusal::OutOfTurn)
     }
 
-    // Declines a call that no open argument allows. The sheet has the same test over fields of its own; the two share no state to be generic over.
+    // Declines a call that no open argument allows. The sheet has the same three lines over a field of its own:
+    // one function over an Option would need a clause as long.
     pub(crate) fn check_shut(&self) -> Result<(), Refusal>
         ensures answer { verdict result ≡ cut_told (held self.now) }
         ensures shut { OnOk result (self.now.start ≡ None) }

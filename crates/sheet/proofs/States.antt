@@ -6,7 +6,8 @@ use Rattle.std.specs.Option.{option_map, unwrap_or}
 use Rattle.std.proofs.lemmas.List.{append-nil, length-drop, length-set, length-take-le, take-append-drop, take-take, take_all, take_more_set, drop-append-le, drop_all, drop-set-lt, drop-take, get_or-take}
 use Rattle.std.proofs.lemmas.Option.{slice_get_past}
 use Rattle.std.proofs.lemmas.Slice.{take-put_mid, take-put_mid_below}
-use Rattle.sinks.specs.Sinks.{Held, full, first_bar, written, finished}
+use Rattle.text.specs.declared.refusals.Refusal.TheVariants.{NoSpace}
+use Rattle.sinks.specs.Sinks.{Held, refusal, first_bar, write_told, written, finished}
 use borrow.Rule.Slice.PartMut.{put_mid}
 use Rattle.sheet.specs.Rows.{Chained, chained, cut_up, ClearFrom}
 use Rattle.sheet.specs.Sheet.{limit_of, places, rules_at, content, filled, filled_rows}
@@ -130,11 +131,15 @@ module _ (s : Sheet) where
     total_is : length (concat (held s).list) ≡ s.finished
     total_is = ap length concat_is ∙ text_long
 
-    pub write_fits : (bs : List ℕ) → s.finished + n + length bs ≤ s.limit → first_bar (rules_at s.limit (length pairs)) (held s).list (tail n) bs ≡ None
-    write_fits bs h = row.all_fit s.limit (length pairs) (held s).list (tail n) bs (omega (arith, total_is, tail_long))
+    write_is : (bs : List ℕ) → write_told (rules_at s.limit (length pairs)) (held s) bs ≡ option_map refusal (first_bar (rules_at s.limit (length pairs)) (held s).list (tail n) bs)
+    write_is bs = ap (λ o. write_told (rules_at s.limit (length pairs)) (at o) bs) open'
 
-    pub write_full : (bs : List ℕ) → s.limit < s.finished + n + length bs → first_bar (rules_at s.limit (length pairs)) (held s).list (tail n) bs ≡ Some full
-    write_full bs h = row.not_all_fit s.limit (length pairs) (held s).list (tail n) bs (omega (arith, total_is, tail_long, s.within, open_end)) (omega (arith, total_is, tail_long))
+    pub write_fits : (bs : List ℕ) → s.finished + n + length bs ≤ s.limit → None ≡ write_told (rules_at s.limit (length pairs)) (held s) bs
+    write_fits bs h = sym (write_is bs ∙ ap (option_map refusal) (row.all_fit s.limit (length pairs) (held s).list (tail n) bs (omega (arith, total_is, tail_long))))
+
+    pub write_full : (bs : List ℕ) → s.limit < s.finished + n + length bs → Some NoSpace ≡ write_told (rules_at s.limit (length pairs)) (held s) bs
+    write_full bs h =
+        sym (write_is bs ∙ ap (option_map refusal) (row.not_all_fit s.limit (length pairs) (held s).list (tail n) bs (omega (arith, total_is, tail_long, s.within, open_end)) (omega (arith, total_is, tail_long))))
 
     -- bytes are added
     module _ (bs ys : List ℕ) (k : ℕ) (long : k ≡ length bs) (fit : s.finished + n + length bs ≤ s.limit) (is : ys ≡ bs) (same : length ys ≡ length (take k (drop (s.finished + n) bytes))) where

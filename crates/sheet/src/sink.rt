@@ -45,7 +45,7 @@ impl<'a> Sheet<'a> {
         ensures lends { result.now ≡ self.now.bytes.now }
         ensures every_byte { self.now.bytes.now ≡ filled self.now.limit (content (held self.now)) (beyond self.now) }
     {
-        self.bytes
+        &self.bytes[..]
     }
 
     // All of the table: the offset and the length of each argument, and zeros behind them.
@@ -53,7 +53,7 @@ impl<'a> Sheet<'a> {
         ensures lends { result.now ≡ self.now.pairs.now }
         ensures every_pair { self.now.pairs.now ≡ filled_rows (length self.now.pairs.now) (places 0 (held self.now).list) }
     {
-        self.pairs
+        &self.pairs[..]
     }
 }
 
@@ -76,23 +76,30 @@ impl<'a> Sink for Sheet<'a> {
     }
 
     fn write(&mut self, bytes: &[u8]) -> Result<(), Refusal> {
-        let len = self.pending.ok_or(Refusal::OutOfTurn)?;
-        self.check_write(len, bytes)?;
-        self.append(len, bytes);
+        let len = self.check_open()?;
+        let at = self.finished + len;
+        if bytes.len() > self.limit - at {
+            return Err(Refusal::NoSpace);
+        }
+        self.bytes[at..at + bytes.len()].copy_from_slice(bytes);
+        self.pending = Some(len + bytes.len());
         Ok(())
     }
 
     fn finish(&mut self, token: Token) -> Result<(), Refusal> {
         token.spend();
-        let len = self.pending.ok_or(Refusal::OutOfTurn)?;
-        self.seal(len);
+        let len = self.check_open()?;
+        self.pairs[self.count] = self.span(len);
+        self.count += 1;
+        self.finished += len;
+        self.pending = None;
         Ok(())
     }
 
     fn withdraw(&mut self, token: Token) -> Result<(), Refusal> {
         token.spend();
-        let len = self.pending.ok_or(Refusal::OutOfTurn)?;
-        self.drop_open(len);
+        self.check_open()?;
+        self.drop_open();
         Ok(())
     }
 
@@ -107,9 +114,7 @@ impl<'a> Sink for Sheet<'a> {
     }
 
     fn empty(&mut self) {
-        if let Some(len) = self.pending {
-            self.drop_open(len);
-        }
+        self.drop_open();
         self.cut_to(0);
     }
 }

@@ -4,13 +4,13 @@ ghost use Rattle.std.specs.Option.{unwrap_or};
 ghost use Rattle.sheet.specs.Rows.{chained, ClearFrom};
 ghost use Rattle.sheet.specs.Sheet.{limit_of};
 
-// Both slices are lent by the caller, since no sink takes from the heap: so the lengths stand beside them.
+// Both slices are lent by the caller, since no sink of ours takes from the heap: so the lengths stand beside them.
 #[derive(Drop)]
 pub struct Sheet<'a> {
     pub(crate) bytes: &'a mut [u8],
-    // the offset and the length of each finished argument, as every table of a sheet lies
+    // the caller's table: the offset and the length of each finished argument
     pub(crate) pairs: &'a mut [(u16, u16)],
-    // how many bytes are used at most
+    // how many bytes are used at most: kept, as the contracts name it
     pub(crate) limit: usize,
     // how many arguments are finished, and where they end
     pub(crate) count: usize,

@@ -1,15 +1,14 @@
 // The steps of a sheet, each from one good state to another.
-ghost use Rattle.std.specs.Prelude.{◌≡◌, ℕ, ◌+◌, ◌-◌, ◌<◌, ◌≤◌, ◌++◌, replicate, length, take, drop, Some, None};
+ghost use Rattle.std.specs.Prelude.{◌≡◌, ℕ, ◌+◌, ◌-◌, ◌<◌, ◌≤◌, ◌++◌, replicate, length, take, drop, Some, None, OnOk};
 ghost use Rattle.std.specs.List.{slice_get};
-ghost use Rattle.std.specs.Option.{option_map};
-ghost use Rattle.sinks.specs.Sinks.{verdict, refusal, first_bar, cut_told, written, finished, withdrawn};
-ghost use Rattle.sheet.specs.Sheet.{rules_at};
+ghost use Rattle.std.specs.Result.{result_ok};
+ghost use Rattle.sinks.specs.Sinks.{verdict, withdraw_told, cut_told, withdrawn};
 ghost use Rattle.sheet.specs.State.{held, lasting};
 
 use super::state::Sheet;
 use text::Refusal;
 
-// Zeros in a part of a buffer.
+// Zeros in a part of a buffer. The clauses say of `fill` what its three callers need, so that no caller proves it anew.
 pub(crate) fn clear(bytes: &mut [u8], from: usize, to: usize)
     requires { (from ≤ to) × (to ≤ length bytes.old) }
     ensures front { take from bytes.new ≡ take from bytes.old }
@@ -20,6 +19,7 @@ pub(crate) fn clear(bytes: &mut [u8], from: usize, to: usize)
     bytes[from..to].fill(0);
 }
 
+// The clause `stays` compares a sink before and after a call, so no type can carry it.
 impl<'a> Sheet<'a> {
     // The argument of a row.
     pub(crate) fn at_row(&self, n: usize) -> &[u8]
@@ -31,10 +31,19 @@ impl<'a> Sheet<'a> {
         &self.bytes[from..from + usize::from(length)]
     }
 
-    // Declines a call that no open argument allows. The joined sink has the same test over fields of its own; the two share no state to be generic over.
+    // The length of the open argument. Declines a call that asks for one where none is open.
+    pub(crate) fn check_open(&self) -> Result<usize, Refusal>
+        ensures answer { verdict result ≡ withdraw_told (held self.now) }
+        ensures place { self.now.pending ≡ result_ok result }
+    {
+        self.pending.ok_or(Refusal::OutOfTurn)
+    }
+
+    // Declines a call that no open argument allows. The joined sink has the same three lines over a field of its own:
+    // one function over an Option would need a clause as long.
     pub(crate) fn check_shut(&self) -> Result<(), Refusal>
         ensures answer { verdict result ≡ cut_told (held self.now) }
-        ensures shut { verdict result ≡ None → self.now.pending ≡ None }
+        ensures shut { OnOk result (self.now.pending ≡ None) }
     {
         if self.pending.is_some() {
             return Err(Refusal::OutOfTurn);
@@ -42,59 +51,24 @@ impl<'a> Sheet<'a> {
         Ok(())
     }
 
-    // Declines bytes that do not all fit.
-    pub(crate) fn check_write(&self, len: usize, bytes: &[u8]) -> Result<(), Refusal>
-        requires { self.now.pending ≡ Some len }
-        ensures answer { verdict result ≡ option_map refusal (first_bar (rules_at self.now.limit (length self.now.pairs.now)) (held self.now).list (take len (drop self.now.finished self.now.bytes.now)) bytes.now) }
-        ensures fits { verdict result ≡ None → self.now.finished + len + length bytes.now ≤ self.now.limit }
-    {
-        if bytes.len() > self.limit - self.finished - len {
-            return Err(Refusal::NoSpace);
-        }
-        Ok(())
-    }
-
-    // Adds bytes to the open argument.
-    pub(crate) fn append(&mut self, len: usize, bytes: &[u8])
-        requires turn { self.old.pending ≡ Some len }
-        requires fits { self.old.finished + len + length bytes.now ≤ self.old.limit }
-        ensures holds { held self.new ≡ written None bytes.now (held self.old) }
-        ensures stays { lasting self.new ≡ lasting self.old }
-    {
-        let at = self.finished + len;
-        self.bytes[at..at + bytes.len()].copy_from_slice(bytes);
-        self.pending = Some(len + bytes.len());
-    }
-
-    // The offset and the length of the open argument. Both are shown to fit, and `try_from` would ask for an answer that is never given.
-    fn span(&self, len: usize) -> (u16, u16)
+    // The offset and the length of the open argument. Both are proved to fit, so `try_from` would have an error that never comes.
+    pub(crate) fn span(&self, len: usize) -> (u16, u16)
         requires { self.now.pending ≡ Some len }
         ensures { result ≡ (self.now.finished, len) }
     {
         (self.finished as u16, len as u16)
     }
 
-    // Puts the open argument last in the list.
-    pub(crate) fn seal(&mut self, len: usize)
-        requires { self.old.pending ≡ Some len }
-        ensures holds { held self.new ≡ finished None (held self.old) }
-        ensures stays { lasting self.new ≡ lasting self.old }
-    {
-        self.pairs[self.count] = self.span(len);
-        self.count += 1;
-        self.finished += len;
-        self.pending = None;
-    }
-
-    // Drops the open argument.
-    pub(crate) fn drop_open(&mut self, len: usize)
-        requires { self.old.pending ≡ Some len }
+    // Drops the open argument, if there is one.
+    pub(crate) fn drop_open(&mut self)
         ensures holds { held self.new ≡ withdrawn (held self.old) }
         ensures stays { lasting self.new ≡ lasting self.old }
         ensures shut { self.new.pending ≡ None }
     {
-        clear(self.bytes, self.finished, self.finished + len);
-        self.pending = None;
+        if let Some(len) = self.pending {
+            clear(self.bytes, self.finished, self.finished + len);
+            self.pending = None;
+        }
     }
 
     // Drops all but the first n arguments.

@@ -1,4 +1,5 @@
-// Whole arguments and lists of them, put into any sink. The clause `stays` of each is the one of `Sink`.
+// Whole arguments and lists of them, put into any sink.
+// The clause `stays` of each compares a sink before and after a call, so no type can carry it.
 ghost use Rattle.std.specs.Prelude.{◌≡◌, [], ◌∷◌, map, None};
 ghost use Rattle.sinks.specs.Sinks.{verdict, finished};
 ghost use Rattle.sinks.specs.Putting.{put_told, put as put_in, end_told, kept_or_cut};
@@ -54,7 +55,7 @@ pub fn keep_or_cut<S: Sink>(
     outcome
 }
 
-// Puts a list of arguments as far as they go.
+// Puts a list of arguments as far as they go. It is a `for` and no chain, since it lends the sink anew to each call.
 #[tactic(auto, using(crate::proofs::Stepping::both_ends))]
 fn put_until<S: Sink>(sink: &mut S, list: &[&[u8]]) -> Result<(), Refusal>
     requires { (S.means sink.old).pending ≡ None }

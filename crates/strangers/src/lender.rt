@@ -18,7 +18,7 @@ pub fn cleared() -> u8
     bytes[1]
 }
 
-// The same of a sheet.
+// The same of a sheet. The trait knows no bytes, so each sink has its own.
 pub fn cleared_sheet() -> u8
     ensures { result ≡ 0 }
 {
@@ -35,6 +35,7 @@ pub fn cleared_sheet() -> u8
 #[derive(Drop)]
 struct Holder<S> {
     sink: S,
+    // a field of the holder's own, so that it is more than its sink: 1 once that is emptied
     calls: u8,
 }
 

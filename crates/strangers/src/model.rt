@@ -1,4 +1,5 @@
 // A plain model of the joined sink and of the sheet: lists of bytes, and the rules said once more in the simplest way.
+// One model for both: they differ in four places.
 use std::alloc::Global;
 use std::test::Fail;
 use text::Refusal;
@@ -31,7 +32,7 @@ impl Model {
     }
 
     // How many bytes the arguments have, with the separators of a joined sink.
-    fn used(&self) -> usize {
+    pub(crate) fn used(&self) -> usize {
         let arguments = self.list.iter().chain(self.pending.iter());
         let bytes = arguments.fold(0usize, |n, argument| n.saturating_add(argument.len()));
         match self.kind {

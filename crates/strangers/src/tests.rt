@@ -7,14 +7,6 @@ use std::process::Abort;
 use std::test::Fail;
 use text::Refusal;
 
-// The number of an answer as callers see it, 0 for yes: what the tests expect are these numbers.
-fn number(told: Result<(), Refusal>) -> u8 {
-    match told {
-        Ok(()) => 0,
-        Err(refusal) => refusal.number(),
-    }
-}
-
 // The next of a row of numbers that looks random.
 fn next(seed: u32) -> u32 {
     seed.wrapping_mul(1_664_525).wrapping_add(1_013_904_223)
@@ -26,46 +18,19 @@ fn step<S: Sink>(rt: &impl Abort, sink: &mut S, model: &mut Model, seed: u32) ->
     let texts: [&[u8]; 4] = [b"", b"a", b"bcd", b"e\x1f"];
     let some = (seed >> 8) as usize % 4;
     match (seed >> 16) % 16 {
-        0..=3 => {
-            assert_eq!(rt;
-                number(sink.begin().map(Token::spend)),
-                number(model.begin())
-            );
-            Ok(())
-        },
-        4..=8 => {
-            assert_eq!(rt;
-                number(sink.write(texts[some])),
-                number(model.write(texts[some])?)
-            );
-            Ok(())
-        },
-        9..=12 => {
-            assert_eq!(rt;
-                number(sink.finish(Token::issue())),
-                number(model.finish()?)
-            );
-            Ok(())
-        },
-        13 => {
-            assert_eq!(rt;
-                number(sink.withdraw(Token::issue())),
-                number(model.withdraw())
-            );
-            Ok(())
-        },
-        14 => {
-            assert_eq!(rt; number(sink.cut(some)), number(model.cut(some)));
-            Ok(())
-        },
+        0..=3 => assert_eq!(rt; sink.begin().map(Token::spend), model.begin()),
+        4..=8 => assert_eq!(rt; sink.write(texts[some]), model.write(texts[some])?),
+        9..=12 => assert_eq!(rt; sink.finish(Token::issue()), model.finish()?),
+        13 => assert_eq!(rt; sink.withdraw(Token::issue()), model.withdraw()),
+        14 => assert_eq!(rt; sink.cut(some), model.cut(some)),
         _ => {
             if some == 0 {
                 sink.empty();
                 model.empty();
             }
-            Ok(())
         }
     }
+    Ok(())
 }
 
 fn zeros(bytes: &[u8]) -> bool {
@@ -108,18 +73,14 @@ fn sheet_history(rt: &(impl Abort + AllocGlobal), size: usize, rows: usize) -> R
         seed = next(seed);
         step(rt, &mut sink, &mut model, seed)?;
         assert_eq!(rt; sink.count(), model.list.len());
-        let mut used: usize = 0;
         for (n, argument) in model.list.iter().enumerate() {
             let Some(lent) = sink.argument(n) else {
                 return Err(Fail::new("an argument is missing"));
             };
             assert!(rt; lent == argument.as_slice());
-            used = used.saturating_add(argument.len());
         }
         assert!(rt; sink.argument(model.list.len()).is_none());
-        if let Some(argument) = &model.pending {
-            used = used.saturating_add(argument.len());
-        }
+        let used = model.used();
         let all = sink.bytes();
         assert!(rt; all.len() == size && used <= size);
         assert!(rt; zeros(&all[used..]));
@@ -145,7 +106,7 @@ fn past_the_limit(rt: HostRuntime) -> Result<(), Fail> {
     let mut table = [(0, 0); 1];
     let mut sink = Sheet::new(buffer.as_mut_slice(), &mut table);
     let most = vec![in rt.alloc(); b'-'; 65_535]?;
-    assert_eq!(rt; number(put_argument(&mut sink, most.as_slice())), 0);
+    assert_eq!(rt; put_argument(&mut sink, most.as_slice()), Ok(()));
     let all = sink.bytes();
     assert!(rt; all.len() == 65_537);
     assert!(rt; all[65_534] == b'-' && all[65_535] == 9 && all[65_536] == 9);
@@ -155,11 +116,14 @@ fn past_the_limit(rt: HostRuntime) -> Result<(), Fail> {
 #[test]
 fn strangers_take_lists(rt: HostRuntime) -> Result<(), Fail> {
     let mut nothing = TakesNothing;
-    assert_eq!(rt; number(put_argument(&mut nothing, b"a")), 5);
-    assert_eq!(rt; number(put_arguments(&mut nothing, &[])), 0);
+    assert_eq!(rt; put_argument(&mut nothing, b"a"), Err(Refusal::NoSpace));
+    assert_eq!(rt; put_arguments(&mut nothing, &[]), Ok(()));
     let mut letters = Letters::new(rt.alloc(), 4)?;
-    assert_eq!(rt; number(put_arguments(&mut letters, &[b"a", b"b"])), 0);
-    assert_eq!(rt; number(put_arguments(&mut letters, &[b"c", b"de"])), 4);
+    assert_eq!(rt; put_arguments(&mut letters, &[b"a", b"b"]), Ok(()));
+    assert_eq!(rt;
+        put_arguments(&mut letters, &[b"c", b"de"]),
+        Err(Refusal::CannotCarry)
+    );
     assert_eq!(rt; letters.count(), 2);
     Ok(())
 }
@@ -168,10 +132,13 @@ fn strangers_take_lists(rt: HostRuntime) -> Result<(), Fail> {
 fn lists_go_in_whole(rt: HostRuntime) {
     let mut buffer = [1; 7];
     let mut sink = Joined::new(&mut buffer);
-    assert_eq!(rt; number(put_arguments(&mut sink, &[b"-C", b"a=b"])), 0);
+    assert_eq!(rt; put_arguments(&mut sink, &[b"-C", b"a=b"]), Ok(()));
     assert!(rt; sink.content() == b"-C\x1fa=b".as_slice());
-    assert_eq!(rt; number(put_arguments(&mut sink, &[b"", b"x"])), 5);
-    assert_eq!(rt; number(put_arguments(&mut sink, &[b""])), 0);
+    assert_eq!(rt;
+        put_arguments(&mut sink, &[b"", b"x"]),
+        Err(Refusal::NoSpace)
+    );
+    assert_eq!(rt; put_arguments(&mut sink, &[b""]), Ok(()));
     assert!(rt; sink.content() == b"-C\x1fa=b\x1f".as_slice());
-    assert_eq!(rt; number(put_argument(&mut sink, b"")), 5);
+    assert_eq!(rt; put_argument(&mut sink, b""), Err(Refusal::NoSpace));
 }
