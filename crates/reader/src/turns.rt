@@ -1,5 +1,5 @@
 // One turn of a reader: a flag, something passed over, or the end.
-// The table stands beside the place, in no struct with it: half of the turns need no table.
+// The table stands beside the place: a struct of both would ask `T: Table` of the turns that use no table.
 ghost use Rattle.std.specs.Prelude.{◌≡◌, ℕ, ◌+◌, ◌-◌, ◌<◌, ◌≤◌, List, length, drop};
 ghost use Rattle.flags.specs.Meaning.{Bytes};
 ghost use Rattle.text.specs.Arguments.{separator, piece_at, pieces, place_behind};
@@ -151,7 +151,7 @@ fn option_turn<'a, T: Table>(table: &T, here: Place<'a>) -> Turn<'a>
     }
 }
 
-// A turn at a place, by what is to be read and the byte there.
+// A turn at a place: a match on state and next byte together, which is the project's form.
 fn turn_at<'a, T: Table>(table: &T, state: State, here: Place<'a>) -> Turn<'a>
     ensures { let o = T.Table.means table.now in let text = here.entry.text.now in let at = here.entry.at in Tells o text (weight_in state (length text - at)) (first o (left_in state text at)) result }
 {
