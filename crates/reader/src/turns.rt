@@ -1,12 +1,12 @@
 // One turn of a reader: a flag, something passed over, or the end.
 // The table stands beside the place: a struct of both would ask `T: Table` of the turns that use no table.
-ghost use Rattle.std.specs.Prelude.{◌≡◌, ℕ, ◌+◌, ◌-◌, ◌<◌, ◌≤◌, List, length, drop};
+ghost use Rattle.std.specs.Prelude.{◌≡◌, ℕ, ◌-◌, ◌≤◌, List, length, drop};
 ghost use Rattle.flags.specs.Meaning.{Bytes};
-ghost use Rattle.text.specs.Arguments.{separator, piece_at, pieces, place_behind};
+ghost use Rattle.text.specs.Arguments.{separator, pieces, place_behind};
 ghost use Rattle.text.specs.Shapes.{dash};
-ghost use Rattle.reading.specs.Left.{behind as behind_of, first_from, first_taken, first_long, first_alone, first_equipped, first_rest, first_letter, first};
+ghost use Rattle.reading.specs.Left.{behind as behind_of, first_from, first_long, first_alone, first_equipped, first};
 ghost use Rattle.reading.specs.Reading.{free};
-ghost use Rattle.reader.specs.Cursors.{args_behind, cursor_between, left_in, left_of};
+ghost use Rattle.reader.specs.Cursors.{args_behind, left_in, left_of};
 ghost use Rattle.reader.specs.Turns.{Tells, TellsFrom, TellsAt, TellsIn, weight, weight_in, PartAt, ArgumentAt, ByteAt, first_made_at, first_taken_at, first_rest_at, first_letter_at};
 ghost use Rattle.tables.specs.Tables.{Options};
 
