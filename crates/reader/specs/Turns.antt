@@ -73,7 +73,8 @@ first_rest_at o c text at = first_rest (args_behind text at) (λ t. first_from o
 
 -- where a letter of a cluster stands before the place
 abbrev pub first_letter_at : Options → ℕ → Bytes → ℕ → First
-first_letter_at o letter text at = first_letter (args_behind text at) (λ t. first_from o t (args_behind text at)) (o.short letter) (piece_at separator text at)
+first_letter_at o letter text at =
+    first_letter (args_behind text at) (λ t. first_from o t (args_behind text at)) (o.short letter) (piece_at separator text at)
 
 -- the byte at a place, if there is one
 pub record ByteAt (text : Bytes) (at : ℕ) (x : ℕ) : Type 0 where

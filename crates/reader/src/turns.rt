@@ -7,7 +7,8 @@ ghost use Rattle.text.specs.Shapes.{dash};
 ghost use Rattle.reading.specs.Left.{behind as behind_of, first_from, first_long, first_alone, first_equipped, first};
 ghost use Rattle.reading.specs.Reading.{free};
 ghost use Rattle.reader.specs.Cursors.{args_behind, left_in, left_of};
-ghost use Rattle.reader.specs.Turns.{Tells, TellsFrom, TellsAt, TellsIn, weight, weight_in, PartAt, ArgumentAt, ByteAt, first_made_at, first_taken_at, first_rest_at, first_letter_at};
+ghost use Rattle.reader.specs.Turns.{Tells, TellsFrom, TellsAt, TellsIn, weight, weight_in, PartAt, ArgumentAt, ByteAt};
+ghost use Rattle.reader.specs.Turns.{first_made_at, first_taken_at, first_rest_at, first_letter_at};
 ghost use Rattle.tables.specs.Tables.{Options};
 
 use super::cursor::{Cursor, State};
