@@ -2,6 +2,7 @@ use super::*;
 use flags::{Code, Kind};
 use tables::{Rustc, Table, knows};
 
+// A row, short. The rows' tests have the same, since tests of two crates share no code.
 fn row(offset: usize, length: usize, code: u8) -> Row {
     Row {
         offset,

@@ -6,8 +6,8 @@ use Rattle.std.proofs.lemmas.Bool.{cond-true, cond-false, eq-eqb, ne_eqb}
 use Rattle.flags.specs.Meaning.{Bytes}
 use Rattle.text.specs.Arguments.{pieces, piece_at, place_behind}
 use Rattle.text.specs.Cuts.{Halves, with_front, cut_first}
-use Rattle.text.proofs.Cutting.{cut_first_whole, cut_first_front, cut_first_none}
-use Rattle.text.proofs.Joining.{pieces_one, pieces_cut}
+use Rattle.text.proofs.Cutting.{cut_first_whole}
+use Rattle.text.proofs.Walking.{pieces_split, pieces_uncut}
 use Rattle.tables.specs.Tables.{Options}
 use Rattle.reading.specs.Reading.{free, ended}
 use Rattle.reading.specs.Left.{between, behind, first, first_from}
@@ -24,8 +24,8 @@ abbrev place_by : Option Halves → ℕ → ℕ → ℕ
 place_by o at n = elim o [ Some p ↦ at + length p.0 + 1 | None ↦ n ]
 
 pieces_by : (rest : Bytes) (o : Option Halves) → cut_first 31 rest ≡ o → pieces 31 rest ≡ piece_by o rest ∷ args_by o
-pieces_by rest None e = pieces_one 31 rest (cut_first_none 31 rest e)
-pieces_by rest (Some p) e = ap (pieces 31) (cut_first_whole 31 rest p e) ∙ pieces_cut 31 p.0 p.1 (cut_first_front 31 rest p e)
+pieces_by rest None e = pieces_uncut 31 rest e
+pieces_by rest (Some p) e = pieces_split 31 rest p e
 
 some_pieces : (bs : Bytes) → behind (pieces 31 bs) ≡ pieces 31 bs
 some_pieces bs = ap behind (pieces_by bs (cut_first 31 bs) refl) ∙ sym (pieces_by bs (cut_first 31 bs) refl)

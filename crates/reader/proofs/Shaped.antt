@@ -14,7 +14,7 @@ use Rattle.reader.proofs.Leaving.{pieces_here, piece_on, args_on, no_piece, firs
 use Rattle.reader.proofs.Turning.{skipped_first}
 
 not_separator : ◌≡◌ {A = ℕ} 45 31 → ⊥
-not_separator e = absurd (omega arith)
+not_separator e = absurd (cc)
 
 -- what is left at the start of an argument
 module _ (o : Options) (text : Bytes) (at : ℕ) where

@@ -2,14 +2,16 @@
 use Rattle.std.specs.Prelude.{◌≡◌, ℕ, suc, ◌+◌, ◌-◌, ◌<◌, ◌≤◌, List, [], ◌∷◌, length, take, drop, Some, None, Option}
 use Rattle.flags.specs.Meaning.{Bytes, meaning}
 use Rattle.flags.specs.declared.kinds.Code.{Code}
-use Rattle.text.specs.Arguments.{separator, pieces}
+use Rattle.text.specs.Arguments.{separator, pieces, piece_at}
 use Rattle.tables.specs.Tables.{Options}
-use Rattle.reading.specs.Left.{Left, First, between, in_list, behind, first_made_of, first}
-use Rattle.reader.specs.Cursors.{cursor_between, left_of}
+use Rattle.reading.specs.Left.{Left, First, between, in_list, behind, first_made_of, first_taken, first_from, first_rest, first_letter, first}
+use Rattle.reading.specs.Reading.{free}
+use Rattle.reader.specs.Cursors.{args_behind, cursor_between, left_in, left_of}
 use Rattle.reader.specs.declared.cursor.Cursor.{Cursor}
 use Rattle.reader.specs.declared.cursor.State.{State}
 use Rattle.reader.specs.declared.cursor.State.TheVariants.{Between, Cluster, List as InList, Ended}
 use Rattle.reader.specs.declared.place.Argument.{Argument}
+use Rattle.reader.specs.declared.place.Place.{Place}
 use Rattle.reader.specs.declared.turns.Turn.{Turn}
 use Rattle.reader.specs.declared.turns.Turn.TheVariants.{Gives, Passes, Ends}
 
@@ -33,6 +35,16 @@ Tells o text w f Ends = f ≡ None
 abbrev pub TellsFrom : Options → Bytes → ℕ → First → Turn → Type 0
 TellsFrom o text at f turn = (w : ℕ) → weight text (cursor_between at) < w → Tells o text w f turn
 
+-- the same at a place, of a first flag by text and place
+abbrev pub TellsAt : Options → Place → (Bytes → ℕ → First) → Turn → Type 0
+TellsAt o here f turn = TellsFrom o here.text.now here.at (f here.text.now here.at) turn
+
+-- a turn at a place, by what is to be read there
+abbrev pub TellsIn : Options → State → Place → Turn → Type 0
+TellsIn o state here turn =
+    let text = here.text.now in
+    Tells o text (weight_in state (length text - here.at)) (first o (left_in state text here.at)) turn
+
 -- the bytes end at their place in a text, and reading goes on in the same
 pub record PartAt (text : Bytes) (a : Argument) : Type 0 where
   pub there : a.bytes.now ≡ take (length a.bytes.now) (drop (a.end - length a.bytes.now) text)
@@ -50,6 +62,19 @@ abbrev pub first_made_at : Options → Code → Bytes → Argument → First
 first_made_at o c text a =
     let on : Left = between (pieces separator (drop a.behind.at text)) in
     first_made_of c a.bytes.now on (λ rest. in_list c rest (pieces separator (drop a.end text))) (first o on)
+
+-- the first flag at a place, where an option takes the argument there
+abbrev pub first_taken_at : Options → Code → Bytes → ℕ → First
+first_taken_at o c text at = first_taken c (piece_at separator text at) (args_behind text at) (first_from o free (args_behind text at))
+
+-- where an option in a cluster takes the rest of it, or the next argument
+abbrev pub first_rest_at : Options → Code → Bytes → ℕ → First
+first_rest_at o c text at = first_rest (args_behind text at) (λ t. first_from o t (args_behind text at)) c (piece_at separator text at)
+
+-- where a letter of a cluster stands before the place
+abbrev pub first_letter_at : Options → ℕ → Bytes → ℕ → First
+first_letter_at o letter text at =
+    first_letter (args_behind text at) (λ t. first_from o t (args_behind text at)) (o.short letter) (piece_at separator text at)
 
 -- the byte at a place, if there is one
 pub record ByteAt (text : Bytes) (at : ℕ) (x : ℕ) : Type 0 where

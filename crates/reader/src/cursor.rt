@@ -1,19 +1,19 @@
 // Where a reader stands.
 use flags::Code;
 
-#[derive(Clone, Copy)]
+#[derive(Clone, Copy, Debug, PartialEq, Eq)]
 pub(crate) enum State {
     // at the start of an argument
     Between,
     // at a letter of `-letters`
     Cluster,
-    // at what is left of a list of this option, and its length
+    // in a list: its option, and how many of its bytes are left
     List(Code, usize),
     Ended,
 }
 
 // A place in a text, and what is to be read there.
-#[derive(Clone, Copy)]
+#[derive(Clone, Copy, Debug, PartialEq, Eq)]
 pub struct Cursor {
     pub(crate) at: usize,
     pub(crate) state: State,

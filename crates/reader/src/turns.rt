@@ -1,13 +1,14 @@
 // One turn of a reader: a flag, something passed over, or the end.
-// The table stands beside the place, in no struct with it: half of the turns need no table.
-ghost use Rattle.std.specs.Prelude.{◌≡◌, ℕ, ◌+◌, ◌-◌, ◌<◌, ◌≤◌, List, length, drop};
+// The table stands beside the place: a struct of both would ask `T: Table` of the turns that use no table.
+ghost use Rattle.std.specs.Prelude.{◌≡◌, ℕ, ◌-◌, ◌≤◌, List, length, drop};
 ghost use Rattle.flags.specs.Meaning.{Bytes};
-ghost use Rattle.text.specs.Arguments.{separator, piece_at, pieces, place_behind};
+ghost use Rattle.text.specs.Arguments.{separator, pieces, place_behind};
 ghost use Rattle.text.specs.Shapes.{dash};
-ghost use Rattle.reading.specs.Left.{behind as behind_of, first_from, first_taken, first_long, first_alone, first_equipped, first_rest, first_letter, first};
+ghost use Rattle.reading.specs.Left.{behind as behind_of, first_from, first_long, first_alone, first_equipped, first};
 ghost use Rattle.reading.specs.Reading.{free};
-ghost use Rattle.reader.specs.Cursors.{args_behind, cursor_between, left_in, left_of};
-ghost use Rattle.reader.specs.Turns.{Tells, TellsFrom, weight, weight_in, PartAt, ArgumentAt, ByteAt, first_made_at};
+ghost use Rattle.reader.specs.Cursors.{args_behind, left_in, left_of};
+ghost use Rattle.reader.specs.Turns.{Tells, TellsFrom, TellsAt, TellsIn, weight, weight_in, PartAt, ArgumentAt, ByteAt};
+ghost use Rattle.reader.specs.Turns.{first_made_at, first_taken_at, first_rest_at, first_letter_at};
 ghost use Rattle.tables.specs.Tables.{Options};
 
 use super::cursor::{Cursor, State};
@@ -45,7 +46,7 @@ fn taken(code: Code, argument: Argument<'_>) -> Turn<'_>
 
 // An option takes the whole argument at a place.
 fn takes_next(code: Code, here: Place<'_>) -> Turn<'_>
-    ensures { let text = here.entry.text.now in let at = here.entry.at in (o : Options) → TellsFrom o text at (first_taken code (piece_at separator text at) (args_behind text at) (first_from o free (args_behind text at))) result }
+    ensures { (o : Options) → TellsAt o here.entry (first_taken_at o code) result }
 {
     taken(code, here.argument())
 }
@@ -90,7 +91,7 @@ fn long_turn<'a, T: Table>(table: &T, body: Argument<'a>) -> Turn<'a>
 
 // An option in a cluster takes the rest of its argument at a place, or else the next argument.
 fn takes_rest(code: Code, here: Place<'_>) -> Turn<'_>
-    ensures { let text = here.entry.text.now in let at = here.entry.at in (o : Options) → TellsFrom o text at (first_rest (args_behind text at) (λ t. first_from o t (args_behind text at)) code (piece_at separator text at)) result }
+    ensures { (o : Options) → TellsAt o here.entry (first_rest_at o code) result }
 {
     match here.byte() {
         Some(SEPARATOR) => takes_next(code, here.next()),
@@ -101,7 +102,7 @@ fn takes_rest(code: Code, here: Place<'_>) -> Turn<'_>
 
 // A letter of a cluster, which stands before a place.
 fn letter_turn<'a, T: Table>(table: &T, letter: u8, here: Place<'a>) -> Turn<'a>
-    ensures { let o = T.Table.means table.now in let text = here.entry.text.now in let at = here.entry.at in TellsFrom o text at (first_letter (args_behind text at) (λ t. first_from o t (args_behind text at)) (o.short letter) (piece_at separator text at)) result }
+    ensures { let o = T.Table.means table.now in TellsAt o here.entry (first_letter_at o letter) result }
 {
     match table.lookup_short(letter) {
         Some(code) => match code.bare_flag() {
@@ -135,7 +136,7 @@ fn list_turn(code: Code, left: usize, here: Place<'_>) -> Turn<'_>
 // An argument that begins with a dash.
 fn option_turn<'a, T: Table>(table: &T, here: Place<'a>) -> Turn<'a>
     requires { ByteAt here.text.now here.at dash }
-    ensures { let o = T.Table.means table.now in let text = here.entry.text.now in let at = here.entry.at in Tells o text (weight text (cursor_between at)) (first o (left_of (cursor_between at) text)) result }
+    ensures { TellsIn (T.Table.means table.now) State.Between here.entry result }
 {
     let argument = here.argument();
     match shape_of(argument.bytes) {
@@ -151,9 +152,9 @@ fn option_turn<'a, T: Table>(table: &T, here: Place<'a>) -> Turn<'a>
     }
 }
 
-// A turn at a place, by what is to be read and the byte there.
+// A turn at a place: a match on state and next byte together, which is the project's form.
 fn turn_at<'a, T: Table>(table: &T, state: State, here: Place<'a>) -> Turn<'a>
-    ensures { let o = T.Table.means table.now in let text = here.entry.text.now in let at = here.entry.at in Tells o text (weight_in state (length text - at)) (first o (left_in state text at)) result }
+    ensures { TellsIn (T.Table.means table.now) state here.entry result }
 {
     match (state, here.byte()) {
         (State::Between, Some(b'-')) => option_turn(table, here),

@@ -4,8 +4,8 @@ ghost use Rattle.reading.specs.Counts.{AtMost};
 ghost use Rattle.reading.specs.Parts.{InParts};
 ghost use Rattle.reading.specs.Rules.{ByRules};
 
-// The bytes of a text are enough for its flags, under any table.
-// Of the reading that this counts, `parts` says how it goes on from one argument to the next, and `rules` that it is what the rules give.
+// A text gives at most as many flags as it has bytes, under any table.
+// `parts` says how the reading goes on from one argument to the next, and `rules` that it is what the rules give.
 #[tactic(auto, using(crate::proofs::Counting::at_most, crate::proofs::Parted::in_parts, crate::proofs::Parted::by_rules))]
 pub fn most_flags(text: &[u8]) -> usize
     ensures answer { result ≡ length text.now }

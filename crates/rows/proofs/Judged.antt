@@ -1,8 +1,10 @@
 -- The check's tests say what good rows are. Assumes nothing.
-use Rattle.std.proofs.Common.{◌≡◌, ℕ, zero, suc, ◌+◌, ◌<◌, ◌≤◌, Bool, true, false, cond, not, ◌&&◌, eqb, ltb, leb, List, [], ◌∷◌, length, drop, is_some, is_ok, Some, None, Ok, Err, Option, Result, sym, refl, ap, ◌∙◌, subst, ⊎_elim, arith, length-drop, length-take}
+use Rattle.std.proofs.Common.{◌≡◌, ℕ, zero, suc, ◌+◌, ◌<◌, ◌≤◌, Bool, true, false, cond, not, ◌&&◌, eqb, ltb, leb, List, [], ◌∷◌, length, drop, get_or, is_some, is_ok, Some, None, Ok, Err, Option, Result, sym, refl, ap, ◌∙◌, subst, ⊎_elim, arith, length-drop, length-take}
 use Rattle.std.specs.List.{slice_get, list_all}
 use Rattle.std.specs.Option.{option_map}
 use Rattle.std.specs.Str.{bytes_eq}
+use Rattle.std.proofs.lemmas.List.Sums.{AllPass-from_list_all, list_all-from_AllPass}
+use Rattle.std.proofs.lemmas.Option.{get_or_from_slice_get, slice_get-get_or, slice_get_cases}
 use Rattle.std.proofs.lemmas.Slice.Eq.{bytes_eq-Decides}
 use Rattle.std.proofs.lemmas.Bool.{and_parts, and_from, or_parts, or_from, both_ways, cases_Bool, cond-true, cond-false, eqb-true, eqb-false, eq-eqb, ne_eqb, leb-true, le-leb, ltb-true, lt-ltb, not-true, not_from_false}
 use Rattle.text.specs.Cuts.{begins}
@@ -25,13 +27,13 @@ module _ {X : Type 0} where
 
   module _ (test : X → Bool) where
     every_there : (xs : List X) → list_all test xs ≡ true → (i : ℕ) (x : X) → slice_get xs i ≡ Some x → test x ≡ true
-    every_there [] all i x e = absurd (cc)
-    every_there (y ∷ xs) all zero x e = ap test (sym (first_place y x xs e)) ∙ (and_parts (test y) (list_all test xs) all).0
-    every_there (y ∷ xs) all (suc i) x e = every_there xs (and_parts (test y) (list_all test xs) all).1 i x e
+    every_there xs all i x e = ⊎_elim
+        (λ there. ap test (sym (get_or_from_slice_get xs i x x e)) ∙ AllPass-from_list_all test xs all i x there.1)
+        (λ past. absurd (both_ways true (ap is_some (sym e ∙ past.1)) refl))
+        (slice_get_cases xs i).1
 
     every_from : (xs : List X) → ((i : ℕ) (x : X) → slice_get xs i ≡ Some x → test x ≡ true) → list_all test xs ≡ true
-    every_from [] f = refl
-    every_from (x ∷ xs) f = and_from (test x) (list_all test xs) (f 0 x refl) (every_from xs (λ i y e. f (suc i) y e))
+    every_from xs f = list_all-from_AllPass test xs (λ i d within. f i (get_or xs i d) (slice_get-get_or xs i d within))
 
 -- Order.
 

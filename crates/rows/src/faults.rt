@@ -53,7 +53,8 @@ impl Names<'_> {
         self.inside(row) && is_name(self.name_of(row)) && row.known_code().is_some()
     }
 
-    // Whether each row is good and begins at or behind the end of the one before it. The place is carried along, which a fold says no plainer.
+    // Whether each row is good and begins at or behind the end of the one before it.
+    // The place is carried along from row to row; a fold would carry a flag too.
     fn are_good(&self) -> bool
         ensures { result ≡ (in_order 0 self.now.rows.now && list_all (good_row self.now.text.now) self.now.rows.now) }
     {
@@ -67,7 +68,7 @@ impl Names<'_> {
         true
     }
 
-    // Whether a name stands twice.
+    // Whether a name stands twice: each row is held against those behind it, which the pattern lends.
     fn repeat(&self) -> bool
         ensures { result ≡ names_twice self.now.text.now self.now.rows.now }
     {
@@ -93,6 +94,7 @@ impl Names<'_> {
             .is_some_and(|row| row.code == kind.number())
     }
 
+    // Whether the kind that a row's code makes has its home. A match, since the proof of `is_some_and` here did not close.
     fn row_home(&self, row: Row) -> bool
         ensures { result ≡ row_home self.now.text.now self.now.rows.now row }
     {

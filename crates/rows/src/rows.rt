@@ -1,4 +1,4 @@
-// Rows over a text of names: what they say.
+// Rows over a text of names: what they say. The definitions take the two lists, so that they read without the code.
 ghost use Rattle.std.specs.Prelude.{◌≡◌};
 ghost use Rattle.flags.specs.Codes.{code_of};
 ghost use Rattle.rows.specs.Rows.{name_of, row_at, code_at, short_code, long_code};

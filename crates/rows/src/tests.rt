@@ -1,6 +1,6 @@
 use super::*;
 
-// The number of the refusal, if there is one.
+// The number of the refusal, if there is one; numbers, since of two faults the smaller one is told.
 fn verdict(text: &[u8], rows: &[Row]) -> Option<u8> {
     Names { text, rows }
         .check()
@@ -8,6 +8,7 @@ fn verdict(text: &[u8], rows: &[Row]) -> Option<u8> {
         .map(|refusal| refusal.number())
 }
 
+// A row, short. The house's tests have the same, since tests of two crates share no code.
 const fn row(offset: usize, length: usize, code: u8) -> Row {
     Row {
         offset,
@@ -45,13 +46,13 @@ fn apply(text: &mut [u8], rows: &mut [Row], edit: Edit) {
     match edit {
         Edit::Nothing => {}
         Edit::Byte(at, byte) => {
-            if at < text.len() {
-                text[at] = byte;
+            if let Some(there) = text.get_mut(at) {
+                *there = byte;
             }
         }
         Edit::Row(place, row) => {
-            if place < rows.len() {
-                rows[place] = row;
+            if let Some(there) = rows.get_mut(place) {
+                *there = row;
             }
         }
     }

@@ -15,6 +15,7 @@ impl Table for Rustc {
 
     ghost lawful = { λ t. rustc_lawful };
 
+    // A choice over character literals, which is the project's form.
     fn lookup_short(&self, byte: u8) -> Option<Code> {
         match char::from(byte) {
             'h' => Some(Code::Of(Kind::Help)),
