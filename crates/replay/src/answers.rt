@@ -23,7 +23,7 @@ impl From<AllocError> for Fault {
     }
 }
 
-// Not `to_digit`, which takes capitals too: the sample has none, and a line with one is unreadable.
+// The inverse of `digit_char`, as its clause says. `to_digit` isn't: it takes capitals too, which the sample hasn't.
 fn value_of(digit: u8) -> Option<u8>
     ensures value { elim result [ Some n ↦ digit ≡ digit_char n | None ↦ Unit {0} ] }
     ensures bound { elim result [ Some n ↦ n < 16 | None ↦ Unit {0} ] }
