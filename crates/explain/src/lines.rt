@@ -66,7 +66,7 @@ fn refused(heap: Global, refusal: Refusal) -> Result<String, AllocError>
     ensures { IfOk result (λ s. string_bytes s ≡ refused refusal) }
 {
     let number = refusal.number();
-    format!(in heap; "refused {number}: a text has at most 65,535 bytes\n")
+    format!(in heap; "refused {number}: {refusal}\n")
 }
 
 // What is printed of a text.
