@@ -1,4 +1,4 @@
-use Rattle.std.proofs.Common.{ℕ, suc, length, Some, None}
+use Rattle.std.proofs.Common.{suc, length, Some, None}
 use Rattle.bridge.specs.Answered.{all_by}
 use Rattle.replay.proofs.answers.push_flags.Given as goal
 
