@@ -22,7 +22,8 @@ encoding_name false = codes "not UTF-8"
 
 -- one argument and its number
 abbrev pub line : ℕ → List ℕ → List ℕ
-line n a = decimal n ++ (codes ": " ++ (escaped a ++ (codes " (" ++ (shape_name (form_of a) ++ (codes ", " ++ (encoding_name (utf8 a) ++ codes ")\n"))))))
+line n a =
+    decimal n ++ (codes ": " ++ (escaped a ++ (codes " (" ++ (shape_name (form_of a) ++ (codes ", " ++ (encoding_name (utf8 a) ++ codes ")\n"))))))
 
 abbrev pub lines : ℕ → List (List ℕ) → List ℕ
 lines n [] = []

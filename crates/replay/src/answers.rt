@@ -1,6 +1,6 @@
 // A line of the sample is the number of an option's code, a space, and an argument in hexadecimal digits. Its answer is
 // one line too: the flags that the option gives of the argument.
-ghost use Rattle.std.specs.Prelude.{◌≡◌, ◌<◌, ◌++◌, length, Some, None, string_bytes, IfOk, OnOk};
+ghost use Rattle.std.specs.Prelude.{◌≡◌, ◌<◌, ◌++◌, length, Some, None, string_bytes, IfSome, IfOk, OnOk};
 ghost use Rattle.std.specs.Char.{digit_char};
 ghost use Rattle.bridge.specs.Answered.{made_by, all_by};
 ghost use Rattle.show.specs.Shown.{shown};
@@ -64,8 +64,10 @@ fn push_first<'a>(
     number: u8,
     argument: &'a [u8],
 ) -> Result<Option<&'a [u8]>, AllocError>
-    ensures answer { OnOk result (elim (made_by number argument.now) [ Some p ↦ string_bytes out.new ≡ string_bytes out.old ++ (separator.now ++ shown p.0) | None ↦ out.new ≡ out.old ]) }
-    ensures fewer { IfOk result (λ rest. elim rest [ Some bytes ↦ length (all_by number bytes.now) < length (all_by number argument.now) | None ↦ Unit {0} ]) }
+    ensures answer { OnOk result (elim (made_by number argument.now)
+        [ Some p ↦ string_bytes out.new ≡ string_bytes out.old ++ (separator.now ++ shown p.0) | None ↦ out.new ≡ out.old ]) }
+    ensures fewer { IfOk result (λ rest. IfSome rest
+        (λ bytes. length (all_by number bytes.now) < length (all_by number argument.now))) }
 {
     let Some((flag, place)) = first_of(number, argument) else {
         return Ok(None);
