@@ -1,14 +1,18 @@
 -- What a caller in Rust or C is told of a flag. Assumes nothing.
-use Rattle.std.specs.Prelude.{◌≡◌, ℕ, ◌⊎◌, ◌++◌, length, drop, Some, None, Option}
+use Rattle.std.specs.Prelude.{◌≡◌, ℕ, ◌⊎◌, List, [], ◌++◌, length, drop, Some, None, Option}
 use Rattle.flags.specs.Codes.{code_of}
 use Rattle.flags.specs.Meaning.{Bytes, Meaning}
-use Rattle.construct.specs.Made.{first_made}
+use Rattle.construct.specs.Made.{first_made, all_made}
 use Rattle.show.specs.Shown.{shown}
 use Rattle.bridge.specs.declared.making.Answer.{Answer}
 
 -- the first flag by a code's number; none where no code has it
 abbrev pub made_by : ℕ → Bytes → Option (Meaning × ℕ)
 made_by number a = elim (code_of number) [ Some c ↦ first_made c a | None ↦ None ]
+
+-- all the flags by a code's number
+abbrev pub all_by : ℕ → Bytes → List Meaning
+all_by number a = elim (code_of number) [ Some c ↦ all_made c a | None ↦ [] ]
 
 abbrev pub no_flag : Answer
 no_flag = record { status = 0; length = 0; place = 0 }

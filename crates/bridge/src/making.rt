@@ -1,7 +1,9 @@
 // Flags made by the number of an option's code, and written as lines.
-ghost use Rattle.std.specs.Prelude.{◌≡◌, ◌++◌, length, drop, MatchOption};
+ghost use Rattle.std.specs.Prelude.{◌≡◌, ◌++◌, length, drop, IfSome, MatchOption};
 ghost use Rattle.std.specs.Option.{option_map};
 ghost use Rattle.bridge.specs.Answered.{made_by, Answered};
+ghost use Rattle.construct.specs.Made.{all_made, from_first};
+ghost use Rattle.flags.specs.Codes.{code_of};
 ghost use Rattle.flags.specs.Meaning.{meaning};
 ghost use Rattle.opt.specs.Opt.{placed};
 ghost use Rattle.show.specs.Shown.{shown};
@@ -35,14 +37,17 @@ const NO_ROOM: Answer = Answer {
 
 // The first flag that the option with this number gives of an argument, and the place behind it; none where no option has the number.
 pub fn first_of(number: u8, argument: &[u8]) -> Option<(Flag<'_>, usize)>
-    ensures { option_map placed result ≡ made_by number argument.now }
+    ensures answer { option_map placed result ≡ made_by number argument.now }
+    ensures all { IfSome (code_of number)
+        (λ c. all_made c argument.now ≡ from_first c argument.now (option_map placed result)) }
 {
     make(Code::try_from(number).ok()?, argument)
 }
 
 // Puts the flag's line at the front of `line`, and says how long it is; none where it finds no room or no memory.
 fn put(heap: Global, flag: Flag<'_>, line: &mut [u8]) -> Option<usize>
-    ensures { MatchOption result (line.new ≡ line.old) (λ n. (n ≡ length (shown (meaning flag.entry))) × (line.new ≡ shown (meaning flag.entry) ++ drop n line.old)) }
+    ensures { MatchOption result (line.new ≡ line.old)
+        (λ n. (n ≡ length (shown (meaning flag.entry))) × (line.new ≡ shown (meaning flag.entry) ++ drop n line.old)) }
 {
     let text = Shown(flag).to_string(heap).ok()?;
     let length = text.len();

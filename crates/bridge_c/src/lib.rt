@@ -1,5 +1,6 @@
 // What the comparison calls, exported to Rust and C. An exported function stands in a static library, which no crate
-// can use, so the types and the making of flags are those of `bridge`.
+// can use, so the types and the making of flags are those of `bridge`. Each export is one line over the library, because
+// C can call only functions of these names and types; its contract says that it answers as the library does.
 #![tactic(auto)]
 
 ghost use Rattle.std.specs.Prelude.{◌≡◌};

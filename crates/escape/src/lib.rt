@@ -15,6 +15,8 @@ fn write_hex<W: fmt::Write>(f: &mut fmt::Formatter<W>, byte: u8) -> fmt::Result
     write!(f, "\\x{byte:02x}")
 }
 
+// Prints one byte. `mark` is the byte that takes a backslash before it, as a backslash itself does: the quote inside
+// quotes. It is ASCII, below 128, so that the backslash and the mark are text.
 fn write_byte<W: fmt::Write>(f: &mut fmt::Formatter<W>, mark: u8, byte: u8) -> fmt::Result
     requires { mark < 128 }
     ensures { WritesOnOk W.write_str_gives f.old result (escaped_byte mark byte) f.new }
@@ -29,6 +31,7 @@ fn write_byte<W: fmt::Write>(f: &mut fmt::Formatter<W>, mark: u8, byte: u8) -> f
     }
 }
 
+// Prints each byte, with the same mark.
 fn write_marked<W: fmt::Write>(f: &mut fmt::Formatter<W>, mark: u8, bytes: &[u8]) -> fmt::Result
     requires { mark < 128 }
     ensures { WritesOnOk W.write_str_gives f.old result (flat_map (escaped_byte mark) bytes.now) f.new }

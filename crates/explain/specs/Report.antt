@@ -5,7 +5,7 @@ use Rattle.utf8.specs.Utf8.{utf8}
 use Rattle.text.specs.declared.refusals.Refusal.{Refusal}
 use Rattle.text.specs.declared.refusals.Refusal.TheVariants.{TextTooLong}
 use Rattle.text.specs.Arguments.{longest_text, arguments}
-use Rattle.text.specs.Refusals.{number}
+use Rattle.text.specs.Refusals.{number, said}
 use Rattle.text.specs.Shapes.{Form, empty, single, double, long, short, plain, form_of}
 
 abbrev pub shape_name : Form → List ℕ
@@ -22,7 +22,8 @@ encoding_name false = codes "not UTF-8"
 
 -- one argument and its number
 abbrev pub line : ℕ → List ℕ → List ℕ
-line n a = decimal n ++ (codes ": " ++ (escaped a ++ (codes " (" ++ (shape_name (form_of a) ++ (codes ", " ++ (encoding_name (utf8 a) ++ codes ")\n"))))))
+line n a =
+    decimal n ++ (codes ": " ++ (escaped a ++ (codes " (" ++ (shape_name (form_of a) ++ (codes ", " ++ (encoding_name (utf8 a) ++ codes ")\n"))))))
 
 abbrev pub lines : ℕ → List (List ℕ) → List ℕ
 lines n [] = []
@@ -35,7 +36,7 @@ abbrev pub accepted : List ℕ → List ℕ
 accepted text = heading text ++ lines 1 (arguments text)
 
 abbrev pub refused : Refusal → List ℕ
-refused r = codes "refused " ++ (decimal (number r) ++ codes ": a text has at most 65,535 bytes\n")
+refused r = codes "refused " ++ (decimal (number r) ++ (codes ": " ++ (said r ++ codes "\n")))
 
 abbrev pub report : List ℕ → List ℕ
 report text = cond (nat_le (length text) longest_text) (accepted text) (refused TextTooLong)

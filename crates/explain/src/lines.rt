@@ -9,6 +9,7 @@ use std::alloc::{AllocError, Global};
 use text::{Refusal, Shape, arguments_of, check_text, count, shape_of};
 use utf8::is_utf8;
 
+// Words of this report alone, so no Display of `Shape`.
 fn name_of(shape: Shape<'_>) -> &'static str
     ensures { result.now ≡ shape_name (form shape.entry) }
 {
@@ -22,6 +23,7 @@ fn name_of(shape: Shape<'_>) -> &'static str
     }
 }
 
+// Words of this report alone too.
 fn encoding_of(argument: &[u8]) -> &'static str
     ensures { result.now ≡ encoding_name (utf8 argument.now) }
 {
@@ -64,7 +66,7 @@ fn refused(heap: Global, refusal: Refusal) -> Result<String, AllocError>
     ensures { IfOk result (λ s. string_bytes s ≡ refused refusal) }
 {
     let number = refusal.number();
-    format!(in heap; "refused {number}: a text has at most 65,535 bytes\n")
+    format!(in heap; "refused {number}: {refusal}\n")
 }
 
 // What is printed of a text.

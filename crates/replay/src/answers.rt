@@ -1,13 +1,13 @@
 // A line of the sample is the number of an option's code, a space, and an argument in hexadecimal digits. Its answer is
 // one line too: the flags that the option gives of the argument.
-ghost use Rattle.std.specs.Prelude.{◌≡◌, ◌<◌, ◌++◌, Some, None, string_bytes, OnOk};
+ghost use Rattle.std.specs.Prelude.{◌≡◌, ◌<◌, ◌++◌, length, Some, None, string_bytes, IfSome, IfOk, OnOk};
 ghost use Rattle.std.specs.Char.{digit_char};
-ghost use Rattle.bridge.specs.Answered.{made_by};
+ghost use Rattle.bridge.specs.Answered.{made_by, all_by};
 ghost use Rattle.show.specs.Shown.{shown};
 
 use bridge::first_of;
-use flags::Kind;
-use show::show;
+use flags::{Code, Takes};
+use show::Shown;
 use std::alloc::{AllocError, Global};
 
 // Why a line could not be read.
@@ -23,7 +23,7 @@ impl From<AllocError> for Fault {
     }
 }
 
-// Not `to_digit`, which takes capitals too: the sample has none, and a line with one is unreadable.
+// The inverse of `digit_char`, as its clause says. `to_digit` isn't: it takes capitals too, which the sample hasn't.
 fn value_of(digit: u8) -> Option<u8>
     ensures value { elim result [ Some n ↦ digit ≡ digit_char n | None ↦ Unit {0} ] }
     ensures bound { elim result [ Some n ↦ n < 16 | None ↦ Unit {0} ] }
@@ -56,38 +56,36 @@ fn read_line(heap: Global, line: &str) -> Result<(u8, Vec<u8>), Fault> {
     Ok((number, bytes_of(heap, digits.as_bytes())?))
 }
 
-// Adds the first flag that an option gives of an argument, and gives the bytes behind it where flags of its kind come in
-// lists.
+// Adds the first flag that an option gives of an argument, behind a separator, and gives the bytes behind it where the
+// option takes a list.
 fn push_first<'a>(
     out: &mut String,
+    separator: &str,
     number: u8,
     argument: &'a [u8],
 ) -> Result<Option<&'a [u8]>, AllocError>
-    ensures { OnOk result (elim (made_by number argument.now) [ Some p ↦ string_bytes out.new ≡ string_bytes out.old ++ shown p.0 | None ↦ out.new ≡ out.old ]) }
+    ensures answer { OnOk result (elim (made_by number argument.now)
+        [ Some p ↦ string_bytes out.new ≡ string_bytes out.old ++ (separator.now ++ shown p.0) | None ↦ out.new ≡ out.old ]) }
+    ensures fewer { IfOk result (λ rest. IfSome rest
+        (λ bytes. length (all_by number bytes.now) < length (all_by number argument.now))) }
 {
     let Some((flag, place)) = first_of(number, argument) else {
         return Ok(None);
     };
-    show(flag, out)?;
-    match flag.kind() {
-        Kind::CrateType | Kind::Emit => Ok(argument.get(place..)),
+    write!(out, "{separator}{}", Shown(flag))?;
+    match Code::try_from(number) {
+        Ok(code) if code.takes() == Takes::List => Ok(argument.get(place..)),
         _ => Ok(None),
     }
 }
 
 // Adds the flags that an option gives of an argument.
 fn push_flags(out: &mut String, number: u8, argument: &[u8]) -> Result<(), AllocError> {
-    let mut rest = argument;
-    // Each flag of a list takes a byte at least.
-    for _ in 0..=argument.len() {
-        let Some(behind) = push_first(out, number, rest)? else {
-            break;
-        };
-        if first_of(number, behind).is_none() {
-            break;
-        }
-        out.push_str("; ")?;
-        rest = behind;
+    let mut separator = "";
+    let mut rest = Some(argument);
+    while let Some(bytes) = rest {
+        rest = push_first(out, separator, number, bytes)?;
+        separator = "; ";
     }
     Ok(())
 }

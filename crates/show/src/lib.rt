@@ -26,7 +26,7 @@ impl fmt::Display for Shown<'_> {
     }
 }
 
-// Adds the flag's line, without an end of line.
+// Adds the flag's line, without an end of line: `write!` of a `Shown`, with a clause that callers' proofs name.
 pub fn show(flag: Flag<'_>, out: &mut String) -> Result<(), AllocError>
     ensures { OnOk result (string_bytes out.new ≡ string_bytes out.old ++ shown (meaning flag.entry)) }
 {

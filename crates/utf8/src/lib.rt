@@ -6,8 +6,9 @@ ghost use Rattle.std.specs.Option.{option_map};
 ghost use Rattle.utf8.specs.States.{classed, lists, ranges};
 ghost use Rattle.utf8.specs.Utf8.{behind, utf8, utf8_from, Characters};
 
-// The classes of bytes, in the order of the bytes: numbers and no enum, since the whole table is held to one computed rule, and a span of classes is
-// two bounds. 4 and 13 are of those that no text has: C0, C1, and F5 to FF.
+// The classes of bytes, in the order of the bytes. They are numbers and no enum: the table of 256 numbers below is a form
+// of this project, and one rule that is computed holds all of it; and several classes in a row are told by two bounds, the
+// first and the last. Classes 4 and 13, which have no name here, are of the bytes that no text has: C0, C1, and F5 to FF.
 const ASCII: u8 = 0;
 
 // 80 to 8F, 90 to 9F and A0 to BF continue a character
@@ -69,7 +70,8 @@ enum Owed {
     ThreeAfterF4,
 }
 
-// The whole table, which one test holds to the rule.
+// The table. Its contract says that each entry is the class that the rule gives of its byte, so that `class_of` only has
+// to look one up.
 fn classes() -> &'static [u8; 256]
     ensures { lists classed result.now ≡ true }
 {
@@ -103,11 +105,7 @@ fn begin(byte: u8) -> Option<Owed>
 fn follow(class: u8, first: u8, last: u8, next: Owed) -> Option<Owed>
     ensures { result ≡ (if leb first class && nat_le class last then Some next else None) }
 {
-    if first <= class && class <= last {
-        Some(next)
-    } else {
-        None
-    }
+    (first <= class && class <= last).then_some(next)
 }
 
 // After one more byte; None where the byte cannot stand there.
