@@ -96,12 +96,14 @@ fn modifiers(rt: HostRuntime) {
 
 // How many known words a list has, if they are the set's first ones in their order.
 fn in_order<W: WordSet + PartialEq>(list: &[u8]) -> Option<usize> {
-    for (place, word) in known_words::<W>(list).enumerate() {
+    let mut place: usize = 0;
+    for word in known_words::<W>(list) {
         if W::at(place) != Some(word) {
             return None;
         }
+        place = place.saturating_add(1);
     }
-    Some(known_words::<W>(list).count())
+    Some(place)
 }
 
 #[test]
