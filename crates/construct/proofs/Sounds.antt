@@ -1,5 +1,5 @@
 -- The flags that options make are sound: their texts are UTF-8, and their fields lack the bytes that would end them. Assumes nothing.
-use Rattle.std.proofs.Common.{◌≡◌, ℕ, ◌<◌, Bool, true, false, cond, not, eqb, List, [], ◌∷◌, map, length, Some, None, codes, Option, sym, refl, ap, ◌∙◌, arith, lit<}
+use Rattle.std.proofs.Common.{◌≡◌, ℕ, ◌<◌, Bool, true, false, cond, not, eqb, List, [], ◌∷◌, map, length, Some, None, codes, Option, sym, refl, ap, ◌∙◌, lit<}
 use Rattle.std.specs.Option.{option_map, option_to_list}
 use Rattle.std.specs.List.{AllByRecursion}
 use Rattle.std.proofs.lemmas.Bool.{and_parts, and_from, eqb-true}
@@ -96,20 +96,20 @@ module _ (a : Bytes) where
 
 -- a value in quotes
 closed_told : (xs inner : Bytes) (o : Option Halves) → cut_first 34 xs ≡ o → utf8 xs ≡ true → opt.closed o ≡ Some inner → (utf8 inner ≡ true) × (lacks 34 inner ≡ true)
-closed_told xs inner None e u c = absurd (let z : ◌≡◌ {A = ℕ} 0 1 = cc in omega arith)
+closed_told xs inner None e u c = absurd cc
 closed_told xs inner (Some p) e u c = at (eqb (length p.1) 0) c
   where
     at : (t : Bool) → cond t (Some p.0) None ≡ Some inner → (utf8 inner ≡ true) × (lacks 34 inner ≡ true)
     at true c = let f : p.0 ≡ inner = cc in (ap utf8 (sym f) ∙ (utf8_halves 34 (lit< tt) xs p e u).0, ap (lacks 34) (sym f) ∙ lacking 34 p.0 (cut_first_front 34 xs p e))
-    at false c = absurd (let z : ◌≡◌ {A = ℕ} 0 1 = cc in omega arith)
+    at false c = absurd cc
 
 quoted_told : (v inner : Bytes) → utf8 v ≡ true → opt.quoted v ≡ Some inner → (utf8 inner ≡ true) × (lacks 34 inner ≡ true)
-quoted_told [] inner u q = absurd (let z : ◌≡◌ {A = ℕ} 0 1 = cc in omega arith)
+quoted_told [] inner u q = absurd cc
 quoted_told (x ∷ xs) inner u q = at (eqb x 34) (eqb-true x 34) q
   where
     at : (t : Bool) → (t ≡ true → x ≡ 34) → ◌≡◌ {A = Option Bytes} (elim (cond t (Some xs) None) [ Some rest ↦ opt.closed (cut_first 34 rest) | None ↦ None ]) (Some inner) → (utf8 inner ≡ true) × (lacks 34 inner ≡ true)
     at true is c = closed_told xs inner (cut_first 34 xs) refl (and_parts (utf8 []) (utf8 xs) (sym (utf8_cut [] 34 xs (lit< tt)) ∙ ap (λ y. utf8 (y ∷ xs)) (sym (is refl)) ∙ u)).1 c
-    at false is c = absurd (let z : ◌≡◌ {A = ℕ} 0 1 = cc in omega arith)
+    at false is c = absurd cc
 
 good_value : (name v : Bytes) (o : Option Bytes) → opt.quoted v ≡ o → utf8 name ≡ true → lacks 61 name ≡ true → utf8 v ≡ true → Good (option_map (λ inner. cfg name (Some inner)) o)
 good_value name v None e n l u = tt

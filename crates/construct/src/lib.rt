@@ -63,6 +63,7 @@ fn first_flag(code: Code, arg: &[u8]) -> Option<(Flag<'_>, usize)>
 }
 
 // The first flag that an option gives of its argument, and the place in the argument behind what it used up.
+// Code and argument are two parameters: callers have them from a table and from a text, and the `match` would take a struct of both apart at once.
 pub fn make(code: Code, arg: &[u8]) -> Option<(Flag<'_>, usize)>
     ensures answer { option_map placed result ≡ first_made code arg.now }
     ensures all { all_made code arg.now ≡ from_first code arg.now (option_map placed result) }

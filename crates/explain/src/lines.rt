@@ -44,6 +44,7 @@ fn push_line(out: &mut String, number: usize, argument: &[u8]) -> Result<(), All
     writeln!(out, "{number}: {bytes} ({shape}, {encoding})")
 }
 
+// Heap and text are two parameters: the library's `format!` asks for the heap by itself, and a struct of both would be taken apart in each call.
 fn heading(heap: Global, text: &[u8]) -> Result<String, AllocError>
     ensures { IfOk result (λ s. string_bytes s ≡ heading text.now) }
 {

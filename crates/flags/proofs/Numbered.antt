@@ -16,7 +16,7 @@ placed n [] = true
 placed n (c ∷ cs) = eqb (about c).number n && placed (n + 1) cs
 
 number_at : (n : ℕ) (cs : List Code) (i : ℕ) (c : Code) → placed n cs ≡ true → slice_get cs i ≡ Some c → (about c).number ≡ n + i
-number_at n [] i c p e = absurd (let z : ◌≡◌ {A = ℕ} 0 1 = cc in omega arith)
+number_at n [] i c p e = absurd cc
 number_at n (d ∷ cs) zero c p e =
     let same : d ≡ c = cc in
     let at = eqb-true (about d).number n (and_parts _ _ p).0 in

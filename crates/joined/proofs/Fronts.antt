@@ -6,9 +6,8 @@ use Rattle.std.proofs.lemmas.List.{length-append, length-take-le, take-take, tak
 use Rattle.std.proofs.lemmas.Bool.{cond-true, eq-eqb, eqb-true}
 use Rattle.text.specs.Arguments.{separator, onto_first, pieces, arguments}
 use Rattle.text.specs.Cuts.{begins, occurrences}
-use Rattle.text.proofs.Joining.{length-pieces, length-arguments}
+use Rattle.text.proofs.Joining.{arguments_some, length-pieces, length-arguments}
 use Rattle.joined.specs.Parts.{Text, Front}
-use Rattle.joined.proofs.Texts.{args_some}
 
 -- the pieces on the sides of a byte
 pieces_around : (b : ℕ) (front rest : List ℕ) → pieces b (front ++ b ∷ rest) ≡ pieces b front ++ pieces b rest
@@ -88,7 +87,7 @@ module _ (text front rest : List ℕ) (whole : text ≡ front ++ separator ∷ r
 
   front_list : (n : ℕ) → length (pieces separator front) ≡ n → arguments front ≡ take n (arguments text)
   front_list n e =
-      args_some front front_some ∙ sym (take_at (pieces separator front) (pieces separator rest) n e) ∙ ap (take n) (sym (pieces_around separator front rest) ∙ ap (pieces separator) (sym whole) ∙ sym (args_some text (omega (arith, ap length whole, length-append front (separator ∷ rest)))))
+      arguments_some front front_some ∙ sym (take_at (pieces separator front) (pieces separator rest) n e) ∙ ap (take n) (sym (pieces_around separator front rest) ∙ ap (pieces separator) (sym whole) ∙ sym (arguments_some text (omega (arith, ap length whole, length-append front (separator ∷ rest)))))
 
 module _ (bytes : List ℕ) (end count n before : ℕ) (in' : end ≤ length bytes) (t : Text bytes end count) (few : n < count) (up : n ≡ before + 1) where
   abbrev text : List ℕ
@@ -106,7 +105,7 @@ module _ (bytes : List ℕ) (end count n before : ℕ) (in' : end ≤ length byt
       record {
         within = within;
         text = record {
-          counted = sym (ap (λ l. length (arguments l)) same ∙ ap length (args_some b.front (front_some text b.front b.rest b.whole t.first)) ∙ many);
+          counted = sym (ap (λ l. length (arguments l)) same ∙ ap length (arguments_some b.front (front_some text b.front b.rest b.whole t.first)) ∙ many);
           first = ap (begins separator) same ∙ front_first text b.front b.rest b.whole t.first;
         };
         list = ap arguments same ∙ front_list text b.front b.rest b.whole t.first n many;

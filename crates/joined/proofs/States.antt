@@ -8,8 +8,8 @@ use borrow.Rule.Slice.PartMut.{put_mid}
 use Rattle.text.specs.declared.refusals.Refusal.{Refusal}
 use Rattle.text.specs.declared.refusals.Refusal.TheVariants.{NoSpace}
 use Rattle.text.specs.Arguments.{separator, arguments, join}
-use Rattle.text.specs.Cuts.{holds, begins, occurrences}
-use Rattle.text.proofs.Joining.{joins_back, length-arguments}
+use Rattle.text.specs.Cuts.{holds, begins}
+use Rattle.text.proofs.Joining.{joins_back, length-arguments, occurrences-le-length}
 use Rattle.sinks.specs.Sinks.{Held, verdict, refusal, written, begin_told, write_told}
 use Rattle.sinks.proofs.Spaces.{one_zero_less, length-put_mid, zeros_less, zeros_more, front_and_zeros}
 use Rattle.joined.specs.Joined.{rules_at, room, content, filled}
@@ -18,22 +18,14 @@ use Rattle.joined.specs.State.{held, size, CanBegin, CanWrite, CanFinish}
 use Rattle.joined.specs.declared.state.Joined.{Joined}
 use Rattle.joined.proofs.Texts.{holds-append, no_text_room, text_room, text_no_room, join_grown, join_behind, first_bar_is, bytes_fit, args_more, begins_take, begins_whole}
 
-at_most : (t : Bool) → cond t 1 0 ≤ 1
-at_most true = omega arith
-at_most false = omega arith
-
 none_at : (t : Bool) → t ≡ false → cond t 1 0 ≤ 0
 none_at true e = absurd (both_ways true e refl)
 none_at false e = omega arith
 
-few_separators : (bs : List ℕ) → occurrences separator bs ≤ length bs
-few_separators [] = omega arith
-few_separators (x ∷ xs) = omega (arith, few_separators xs, at_most (eqb x separator))
-
 -- a text has at least as many bytes as arguments
 few_arguments : (bs : List ℕ) → begins separator bs ≡ false → length (arguments bs) ≤ length bs
 few_arguments [] s = omega arith
-few_arguments (x ∷ xs) s = omega (arith, none_at (eqb x separator) s, length-arguments (x ∷ xs) (omega arith), few_separators xs)
+few_arguments (x ∷ xs) s = omega (arith, none_at (eqb x separator) s, length-arguments (x ∷ xs) (omega arith), occurrences-le-length separator xs)
 
 -- bytes were written behind the used ones
 pub record Written (old new : List ℕ) (used : ℕ) (bs : List ℕ) : Type 0 where

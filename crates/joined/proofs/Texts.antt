@@ -1,25 +1,16 @@
 -- A text, and an argument behind it. Assumes nothing.
 use Rattle.std.proofs.Common.{◌≡◌, ℕ, zero, suc, ◌+◌, ◌<◌, ◌≤◌, Bool, true, false, cond, ◌||◌, eqb, leb, List, [], ◌∷◌, ◌++◌, length, take, Some, None, Option, sym, refl, ap, ◌∙◌, arith}
-use Rattle.std.specs.List.{AllByRecursion}
 use Rattle.std.specs.Option.{option_map}
 use Rattle.std.proofs.ByRecursion.{All-append}
 use Rattle.std.proofs.lemmas.List.{append_assoc, length-append, nil_from_length}
 use Rattle.std.proofs.lemmas.Bool.{le-leb, lt-leb, or_parts, leb-true}
 use Rattle.std.proofs.lemmas.Bool.Decides.{nat_tests}
-use Rattle.text.specs.Arguments.{separator, pieces, arguments, join, Whole}
+use Rattle.text.specs.Arguments.{separator, arguments, join, Whole}
 use Rattle.text.specs.Cuts.{holds, begins, first_place}
-use Rattle.text.proofs.Joining.{joins_back, pieces_whole, cuts_back}
+use Rattle.text.proofs.Joining.{joins_back, arguments_whole, cuts_back}
 use Rattle.sinks.specs.Sinks.{Bar, uncarried, full, refusal, or_else, first_bar}
 use Rattle.joined.specs.Joined.{room, rules_at}
 use Rattle.joined.specs.Parts.{bytes_bar}
-
-pub args_some : (bs : List ℕ) → 0 < length bs → arguments bs ≡ pieces separator bs
-args_some [] h = absurd (omega arith)
-args_some (x ∷ xs) h = refl
-
-pub args_whole : (bs : List ℕ) → AllByRecursion (Whole separator) (arguments bs)
-args_whole [] = tt
-args_whole (x ∷ xs) = pieces_whole separator (x ∷ xs)
 
 -- bytes behind the last argument
 pub join_grown : (list : List (List ℕ)) (a more : List ℕ) → join (list ++ (a ++ more) ∷ []) ≡ join (list ++ a ∷ []) ++ more
@@ -116,7 +107,7 @@ bytes_fit left bs = by (first_place separator bs) (found separator bs)
 -- the arguments of a text with one more behind it
 pub args_more : (text a : List ℕ) → Whole separator a → 0 < length (join (arguments text ++ a ∷ [])) → arguments (join (arguments text ++ a ∷ [])) ≡ arguments text ++ a ∷ []
 args_more text a w h =
-    cuts_back (arguments text ++ a ∷ []) (All-append (Whole separator) (arguments text) (a ∷ []) (args_whole text) (w, tt))
+    cuts_back (arguments text ++ a ∷ []) (All-append (Whole separator) (arguments text) (a ∷ []) (arguments_whole text) (w, tt))
     (λ lone. let z : length (join (arguments text ++ a ∷ [])) ≡ 0 = ap (λ l. length (join l)) lone in omega arith)
 
 -- the first byte of a text is that of its front

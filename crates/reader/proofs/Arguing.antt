@@ -101,6 +101,3 @@ module _ (o : Options) (c : Code) where
 
   pub long_owed_next : (text : Bytes) (at : ℕ) (args : List Bytes) → pieces 31 (drop at text) ≡ behind args → first_from o (long_owed c) args ≡ first_taken c (piece_at 31 text at) (args_behind text at) (first_from o free (args_behind text at))
   long_owed_next text at args e = owed_by args _ _ (sym e ∙ pieces_here text at)
-
-pub cut_shorter : (b : ℕ) (a : Bytes) (h : Halves) → Some h ≡ cut_first b a → length h.1 ≤ length a
-cut_shorter b a h cut = omega (arith, ap length (cut_first_whole b a h (sym cut)), length-append h.0 (b ∷ h.1))

@@ -7,21 +7,15 @@ use Rattle.flags.specs.Meaning.{Bytes}
 use Rattle.text.specs.Arguments.{pieces, piece_at, place_behind}
 use Rattle.text.specs.Cuts.{Halves, with_front, cut_first}
 use Rattle.text.proofs.Cutting.{cut_first_whole}
-use Rattle.text.proofs.Walking.{pieces_split, pieces_uncut}
+use Rattle.text.proofs.Walking.{piece_by, place_by, pieces_split, pieces_uncut}
 use Rattle.tables.specs.Tables.{Options}
 use Rattle.reading.specs.Reading.{free, ended}
 use Rattle.reading.specs.Left.{between, behind, first, first_from}
 use Rattle.reader.specs.Cursors.{args_behind}
 
--- the first piece, and the pieces behind it, by the cut of what is left
-abbrev piece_by : Option Halves → Bytes → Bytes
-piece_by o rest = elim o [ Some p ↦ p.0 | None ↦ rest ]
-
+-- the pieces behind the first, by the cut of what is left
 abbrev args_by : Option Halves → List Bytes
 args_by o = elim o [ Some p ↦ pieces 31 p.1 | None ↦ [] ]
-
-abbrev place_by : Option Halves → ℕ → ℕ → ℕ
-place_by o at n = elim o [ Some p ↦ at + length p.0 + 1 | None ↦ n ]
 
 pieces_by : (rest : Bytes) (o : Option Halves) → cut_first 31 rest ≡ o → pieces 31 rest ≡ piece_by o rest ∷ args_by o
 pieces_by rest None e = pieces_uncut 31 rest e

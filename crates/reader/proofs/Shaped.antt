@@ -1,5 +1,5 @@
 -- An argument by its shape. Assumes nothing.
-use Rattle.std.proofs.Common.{◌≡◌, ℕ, ◌+◌, Bool, true, false, cond, eqb, List, [], ◌∷◌, drop, None, sym, refl, ap, ◌∙◌, ◌⊎◌, ⊎_elim, arith}
+use Rattle.std.proofs.Common.{◌≡◌, ℕ, ◌+◌, Bool, true, false, cond, eqb, List, [], ◌∷◌, drop, None, sym, refl, ap, ◌∙◌, ◌⊎◌, ⊎_elim}
 use Rattle.std.proofs.lemmas.Bool.{both_ways, cases_Bool, cond-false, eqb-true, eq-eqb, ne_eqb}
 use Rattle.flags.specs.Meaning.{Bytes}
 use Rattle.text.specs.Arguments.{pieces, piece_at, place_behind}

@@ -45,6 +45,7 @@ fn taken(code: Code, argument: Argument<'_>) -> Turn<'_>
 }
 
 // An option takes the whole argument at a place.
+// Code and place are two parameters: the code is from the table, the place from the text, and a turn puts another of them with the other.
 fn takes_next(code: Code, here: Place<'_>) -> Turn<'_>
     ensures { (o : Options) → TellsAt o here.entry (first_taken_at o code) result }
 {

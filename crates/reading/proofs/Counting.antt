@@ -1,5 +1,5 @@
 -- A text gives no more flags than it has bytes. Assumes nothing.
-use Rattle.std.proofs.Common.{◌≡◌, ℕ, ◌+◌, ◌<◌, ◌≤◌, Bool, true, false, cond, eqb, List, [], ◌∷◌, map, length, Some, None, Option, sym, refl, ap, subst, arith, length-append}
+use Rattle.std.proofs.Common.{◌≡◌, ℕ, ◌+◌, ◌<◌, ◌≤◌, Bool, true, false, cond, eqb, List, [], ◌∷◌, map, length, Some, None, Option, sym, refl, subst, arith, length-append}
 use Rattle.std.specs.Option.{option_to_list}
 use Rattle.std.proofs.lemmas.List.{length-map}
 use Rattle.construct.specs.Made.{single as one-flag, all_made}
@@ -13,7 +13,7 @@ use Rattle.tables.specs.Tables.{Options}
 use Rattle.text.specs.Arguments.{separator, onto_first, pieces, arguments}
 use Rattle.text.specs.Cuts.{Halves, cut_first}
 use Rattle.text.specs.Shapes.{Form, dash, behind_one, behind_two, form_of, empty, single, double, long, short, plain}
-use Rattle.text.proofs.Cutting.{cut_first_whole}
+use Rattle.text.proofs.Cutting.{cut_first_shorter}
 use Rattle.opt.specs.Opt.{emits_of, crate_types_of}
 use Rattle.words.specs.Lists.{comma, Reads, known_in, known}
 use Rattle.words.specs.Reading.{read}
@@ -135,9 +135,6 @@ worth_alone (Some c) = by (about c).flag
     by None = omega arith
     by (Some flag) = omega arith
 
-behind_cut : (body : Bytes) (h : Halves) → cut_first 61 body ≡ Some h → length h.1 < length body
-behind_cut body h e = omega (arith, simp length-append at (ap length (cut_first_whole 61 body h e)))
-
 module _ (o : Options) where
   worth_letter : (bs : Bytes) → worth (cluster_step o bs) ≤ length bs → (k : Option Code) → worth (elim k [ None ↦ ([], free) | Some c ↦ elim (about c).flag [ Some flag ↦ before flag (cluster_step o bs) | None ↦ taking_rest c bs ] ]) ≤ 1 + length bs
   worth_letter bs h None = omega arith
@@ -156,7 +153,7 @@ module _ (o : Options) where
     where
       by : (cut : Option Halves) → cut_first 61 body ≡ cut → worth (elim cut [ Some halves ↦ equipped (o.long halves.0) halves.1 | None ↦ alone (o.long body) ]) ≤ 1 + length body
       by None e = omega (arith, worth_alone (o.long body))
-      by (Some h) e = omega (arith, worth_equipped (o.long h.0) h.1, behind_cut body h e)
+      by (Some h) e = omega (arith, worth_equipped (o.long h.0) h.1, cut_first_shorter 61 body h e)
 
   worth_form : (f : Form) → worth (free_step o f) ≤ size f
   worth_form empty = omega arith

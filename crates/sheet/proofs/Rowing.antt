@@ -1,11 +1,13 @@
 -- Rows that lie back to back, what they cut a text into, and zeros behind them. Assumes nothing.
 use Rattle.std.proofs.Common.{◌≡◌, ℕ, zero, suc, ◌+◌, ◌-◌, ◌<◌, ◌≤◌, true, cond, eqb, List, [], ◌∷◌, ◌++◌, length, get_or, take, drop, replicate, Some, None, sym, refl, ap, ◌∙◌, ⊎_elim, arith}
 use Rattle.std.specs.List.{concat, slice_get}
-use Rattle.std.proofs.lemmas.List.{append_assoc, append-nil, length-append, length-drop, length-take-le, length-replicate, nil_from_length, take_all, take-append-le, take-append-drop, take-take, drop_at, drop-append-le, drop-drop, drop-replicate, drop-take, replicate-append-replicate}
+use Rattle.std.proofs.lemmas.List.{append_assoc, append-nil, length-append, length-drop, length-take-le, length-replicate, nil_from_length, take_all, take-append-le, take-append-drop, take-take, drop-append-le, drop-drop, drop-replicate, drop-take, replicate-append-replicate}
+use Rattle.std.proofs.lemmas.List.Folds.{concat-append}
 use Rattle.std.proofs.lemmas.Slice.{drop-put_mid}
 use Rattle.std.proofs.lemmas.Bool.{cases_lt, le-leb, lt-leb, eqb-true, eq-eqb, and_parts, and_from}
 use borrow.Rule.Slice.PartMut.{put_mid}
 use Rattle.sinks.specs.Sinks.{full, or_else, first_bar}
+use Rattle.sinks.proofs.Spaces.{length-put_mid, put_here}
 use Rattle.sheet.specs.Rows.{Chained, chained, cut_up, ClearFrom}
 use Rattle.sheet.specs.Sheet.{places, rules_at}
 
@@ -26,8 +28,7 @@ length-cut_up [] text = refl
 length-cut_up (p ∷ ps) text = ap suc (length-cut_up ps (drop p.1 text))
 
 pub concat_push : (list : List (List ℕ)) (a : List ℕ) → concat (list ++ a ∷ []) ≡ concat list ++ a
-concat_push [] a = append-nil a
-concat_push (b ∷ list) a = ap (λ l. b ++ l) (concat_push list a) ∙ sym (append_assoc b (concat list) a)
+concat_push list a = concat-append list (a ∷ []) ∙ ap (λ l. concat list ++ l) (append-nil a)
 
 pub concat-cut_up : (at : ℕ) (ps : List (ℕ × ℕ)) (end : ℕ) (text : List ℕ) → Chained at ps end → length text ≡ end - at → concat (cut_up ps text) ≡ text
 concat-cut_up at [] end text c l = sym (nil_from_length text (omega arith))
@@ -131,13 +132,13 @@ module _ {X : Type 0} (limit at k : ℕ) (xs ys : List X) (in' : at + k ≤ limi
   beyond_kept = drop-put_mid at k xs ys limit in' (omega arith) (same ∙ part_long)
 
   pub length_kept : length after ≡ length xs
-  length_kept = omega (arith, same, part_long, length-append (take at xs) (ys ++ drop k (drop at xs)), length-append ys (drop k (drop at xs)), length-take-le at xs (omega arith), length-drop k (drop at xs), length-drop at xs)
+  length_kept = length-put_mid xs ys at k (omega arith) (same ∙ part_long)
 
   pub clear_behind : (z : X) (end : ℕ) → at + k ≡ end → ClearFrom z limit end xs → ClearFrom z limit end after
   clear_behind z end up e = drop-put_mid at k xs ys end (omega arith) (omega arith) (same ∙ part_long) ∙ e ∙ ap (λ l. replicate (limit - end) z ++ l) (sym beyond_kept)
 
   pub part_zeros : (z : X) → ys ≡ replicate (length (take k (drop at xs))) z → drop at after ≡ replicate k z ++ drop (at + k) xs
-  part_zeros z is = drop_at (take at xs) (ys ++ drop k (drop at xs)) at (length-take-le at xs (omega arith)) ∙ (λ i. (is ∙ ap (λ n. replicate n z) part_long) i ++ drop-drop k at xs i)
+  part_zeros z is = put_here xs ys at k (omega arith) (same ∙ part_long) ∙ ap (λ l. l ++ drop (at + k) xs) (is ∙ ap (λ n. replicate n z) part_long)
 
 -- after zeros in a part
 pub clear_more : {X : Type 0} (z : X) (limit from to : ℕ) (xs new : List X) → from ≤ to → to ≤ limit → drop from new ≡ replicate (to - from) z ++ drop to xs → drop limit new ≡ drop limit xs → ClearFrom z limit to xs → ClearFrom z limit from new

@@ -1,5 +1,5 @@
 -- What a sheet means. Assumes nothing.
-use Rattle.std.specs.Prelude.{ℕ, List, length, take, drop}
+use Rattle.std.specs.Prelude.{◌≡◌, ℕ, ◌+◌, ◌≤◌, List, length, take, drop, Some}
 use Rattle.std.specs.Borrow.{GName}
 use Rattle.std.specs.Option.{option_map}
 use Rattle.sinks.specs.Sinks.{Held}
@@ -27,3 +27,8 @@ pub record Lasting : Type 0 where
 
 abbrev pub lasting : Sheet → Lasting
 lasting s = record { limit = s.limit; rows = length s.pairs.now; past = beyond s; buffer = s.bytes.ghost_name; table = s.pairs.ghost_name }
+
+-- bytes may be added to the open argument, which has this length: one is open, and there is space
+pub record CanWrite (s : Sheet) (len : ℕ) (bytes : List ℕ) : Type 0 where
+  pub begun : s.pending ≡ Some len
+  pub room : s.finished + len + length bytes ≤ s.limit

@@ -76,13 +76,8 @@ impl<'a> Sink for Sheet<'a> {
     }
 
     fn write(&mut self, bytes: &[u8]) -> Result<(), Refusal> {
-        let len = self.check_open()?;
-        let at = self.finished + len;
-        if bytes.len() > self.limit - at {
-            return Err(Refusal::NoSpace);
-        }
-        self.bytes[at..at + bytes.len()].copy_from_slice(bytes);
-        self.pending = Some(len + bytes.len());
+        let len = self.check_write(bytes)?;
+        self.append(len, bytes);
         Ok(())
     }
 

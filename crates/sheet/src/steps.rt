@@ -1,9 +1,10 @@
 // The steps of a sheet, each from one good state to another.
-ghost use Rattle.std.specs.Prelude.{◌≡◌, ℕ, ◌+◌, ◌-◌, ◌<◌, ◌≤◌, ◌++◌, replicate, length, take, drop, Some, None, OnOk};
+ghost use Rattle.std.specs.Prelude.{◌≡◌, ℕ, ◌+◌, ◌-◌, ◌<◌, ◌≤◌, ◌++◌, replicate, length, take, drop, Some, None, OnOk, IfOk};
 ghost use Rattle.std.specs.List.{slice_get};
 ghost use Rattle.std.specs.Result.{result_ok};
-ghost use Rattle.sinks.specs.Sinks.{verdict, withdraw_told, cut_told, withdrawn};
-ghost use Rattle.sheet.specs.State.{held, lasting};
+ghost use Rattle.sinks.specs.Sinks.{verdict, write_told, withdraw_told, cut_told, written, withdrawn};
+ghost use Rattle.sheet.specs.Sheet.{rules_at};
+ghost use Rattle.sheet.specs.State.{held, lasting, CanWrite};
 
 use super::state::Sheet;
 use text::Refusal;
@@ -49,6 +50,29 @@ impl<'a> Sheet<'a> {
             return Err(Refusal::OutOfTurn);
         }
         Ok(())
+    }
+
+    // The length of the open argument. Declines bytes for which none is open or for which there is no space.
+    pub(crate) fn check_write(&self, bytes: &[u8]) -> Result<usize, Refusal>
+        ensures answer { verdict result ≡ write_told (rules_at self.now.limit (length self.now.pairs.now)) (held self.now) bytes.now }
+        ensures can { IfOk result (λ len. CanWrite self.now len bytes.now) }
+    {
+        let len = self.check_open()?;
+        if bytes.len() > self.limit - (self.finished + len) {
+            return Err(Refusal::NoSpace);
+        }
+        Ok(len)
+    }
+
+    // Adds bytes to the open argument, which has this length.
+    pub(crate) fn append(&mut self, len: usize, bytes: &[u8])
+        requires { CanWrite self.old len bytes.now }
+        ensures holds { held self.new ≡ written None bytes.now (held self.old) }
+        ensures stays { lasting self.new ≡ lasting self.old }
+    {
+        let at = self.finished + len;
+        self.bytes[at..at + bytes.len()].copy_from_slice(bytes);
+        self.pending = Some(len + bytes.len());
     }
 
     // The offset and the length of the open argument. Both are proved to fit, so `try_from` would have an error that never comes.

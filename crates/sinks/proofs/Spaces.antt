@@ -20,6 +20,9 @@ module _ {X : Type 0} (xs ys : List X) (at k : ℕ) (in' : at + k ≤ length xs)
   pub length-put_mid : length after ≡ length xs
   length-put_mid = simp length-append (omega (arith, length-take-le at xs (omega arith), fits, length-drop k (drop at xs), length-drop at xs))
 
+  pub put_here : drop at after ≡ ys ++ drop (at + k) xs
+  put_here = drop_at (take at xs) (ys ++ drop k (drop at xs)) at (length-take-le at xs (omega arith)) ∙ ap (λ l. ys ++ l) (drop-drop k at xs)
+
   -- used from there on
   pub zeros_less : (zero : X) → drop at xs ≡ replicate (length xs - at) zero → drop (at + k) after ≡ replicate (length after - (at + k)) zero
   zeros_less zero z =
@@ -30,7 +33,7 @@ module _ {X : Type 0} (xs ys : List X) (at k : ℕ) (in' : at + k ≤ length xs)
   pub zeros_more : (zero : X) → ys ≡ replicate k zero → drop (at + k) xs ≡ replicate (length xs - (at + k)) zero → drop at after ≡ replicate (length after - at) zero
   zeros_more zero is z =
       let rest : k + (length xs - (at + k)) ≡ length after - at = omega (arith, length-put_mid) in
-      drop_at (take at xs) (ys ++ drop k (drop at xs)) at (length-take-le at xs (omega arith)) ∙ (λ i. is i ++ (drop-drop k at xs ∙ z) i) ∙ replicate-append-replicate k (length xs - (at + k)) zero ∙ ap (λ n. replicate n zero) rest
+      put_here ∙ (λ i. is i ++ z i) ∙ replicate-append-replicate k (length xs - (at + k)) zero ∙ ap (λ n. replicate n zero) rest
 
 -- all of a space whose rest is zero
 pub front_and_zeros : {X : Type 0} (xs : List X) (used : ℕ) (zero : X) → used ≤ length xs → drop used xs ≡ replicate (length xs - used) zero → xs ≡ take used xs ++ replicate (length xs - length (take used xs)) zero

@@ -9,10 +9,10 @@ use Rattle.sinks.specs.Steps.{so_far, rest_bar, PutUntil}
 
 passed : (o : Option Bar) → None ≡ option_map refusal (or_else o None) → o ≡ None
 passed None e = refl
-passed (Some b) e = let z : ◌≡◌ {A = ℕ} 0 1 = cc in absurd (omega arith)
+passed (Some b) e = absurd cc
 
 barred : (o next : Option Bar) (e : Refusal) → Some e ≡ option_map refusal (or_else o None) → Some e ≡ option_map refusal (or_else o next)
-barred None next e p = let z : ◌≡◌ {A = ℕ} 0 1 = cc in absurd (omega arith)
+barred None next e p = absurd cc
 barred (Some b) next e p = p
 
 module _ (r : Rules) (held : List (List ℕ)) (xs : List (Bor (List ℕ))) where
@@ -53,7 +53,7 @@ module _ (r : Rules) (held : List (List ℕ)) (xs : List (Bor (List ℕ))) where
   pub stopped : (i : ℕ) (h before : Held) (e : Refusal) → held ≡ before.list → h ≡ so_far held more i → arguments_bar r held more ≡ rest_bar r held more i → Some e ≡ option_map refusal (rest_bar r held more i) → PutUntil r more (Some e) before h
   stopped i h before e b p same told = record {
     answer = told ∙ ap (option_map refusal) (sym same) ∙ ap (λ l. option_map refusal (arguments_bar r l more)) b;
-    whole = λ z. let no : ◌≡◌ {A = ℕ} 0 1 = cc in absurd (omega arith);
+    whole = λ z. absurd cc;
     part = ap (λ l. take (length l) h.list) (sym b) ∙ ap (λ k. take (length held) k.list) p ∙ take_at held (take i more) _ refl ∙ b;
     shut = ap (λ k. k.pending) p;
   }
@@ -72,7 +72,7 @@ module _ (r : Rules) (held : List (List ℕ)) (xs : List (Bor (List ℕ))) where
 
 none_open : (list : List (List ℕ)) (o : Option (List ℕ)) → None ≡ cut_told (record { list = list; pending = o }) → o ≡ None
 none_open list None q = refl
-none_open list (Some a) q = let z : ◌≡◌ {A = ℕ} 0 1 = cc in absurd (omega arith)
+none_open list (Some a) q = absurd cc
 
 -- cutting to the number of arguments where none is open
 pub nothing_cut : (n : ℕ) (h h' : Held) → n ≡ length h.list → None ≡ cut_told h → h' ≡ cut_to None n h → (h.pending ≡ None) × (h' ≡ h)

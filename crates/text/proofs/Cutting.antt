@@ -1,5 +1,5 @@
 -- Laws of the places of a byte and of the cuts there. Assumes nothing.
-use Rattle.std.proofs.Common.{◌≡◌, ℕ, zero, suc, ◌<◌, ◌≢◌, Bool, true, false, cond, ◌||◌, eqb, List, [], ◌∷◌, ◌++◌, length, get_or, Some, None, Option, MatchOption, IfSome, refl, sym, ap, ◌∙◌, arith}
+use Rattle.std.proofs.Common.{◌≡◌, ℕ, zero, suc, ◌<◌, ◌≢◌, Bool, true, false, cond, ◌||◌, eqb, List, [], ◌∷◌, ◌++◌, length, get_or, Some, None, Option, MatchOption, IfSome, refl, sym, ap, ◌∙◌, arith, length-append}
 use Rattle.std.specs.Option.{option_map}
 use Rattle.std.proofs.lemmas.Bool.{ne_eqb, eq-eqb, eqb-true, or_from}
 use Rattle.text.specs.Cuts.{holds, first_place, last_place, Halves, sides, with_front, cut_first, cut_last}
@@ -102,27 +102,31 @@ module _ (b : ℕ) (bs : List ℕ) (place : Option ℕ) where
 -- a cut leaves the whole: the front, the byte, the back
 whole_at : (b x : ℕ) (xs : List ℕ) (p : Halves) (t : Bool) (o : Option Halves) → (t ≡ true → x ≡ b) → ((q : Halves) → o ≡ Some q → xs ≡ q.0 ++ b ∷ q.1) → cond t (Some ([], xs)) (option_map (with_front x) o) ≡ Some p → x ∷ xs ≡ p.0 ++ b ∷ p.1
 whole_at b x xs p true o is rest e = let f : p ≡ ([], xs) = cc in rw f (ap (λ y. y ∷ xs) (is refl))
-whole_at b x xs p false None is rest e = absurd (let z : ◌≡◌ {A = ℕ} 0 1 = cc in omega arith)
+whole_at b x xs p false None is rest e = absurd cc
 whole_at b x xs p false (Some q) is rest e = let f : p ≡ with_front x q = cc in rw f (ap (λ l. x ∷ l) (rest q refl))
 
 pub cut_first_whole : (b : ℕ) (bs : List ℕ) (p : Halves) → cut_first b bs ≡ Some p → bs ≡ p.0 ++ b ∷ p.1
-cut_first_whole b [] p e = absurd (let z : ◌≡◌ {A = ℕ} 0 1 = cc in omega arith)
+cut_first_whole b [] p e = absurd cc
 cut_first_whole b (x ∷ xs) p e = whole_at b x xs p (eqb x b) (cut_first b xs) (eqb-true x b) (cut_first_whole b xs) e
+
+-- what stands behind a cut is shorter
+pub cut_first_shorter : (b : ℕ) (bs : List ℕ) (p : Halves) → cut_first b bs ≡ Some p → length p.1 < length bs
+cut_first_shorter b bs p e = omega (arith, simp length-append at (ap length (cut_first_whole b bs p e)))
 
 -- no b stands before the cut, and none at all where there is no cut
 front_at : (b x : ℕ) (xs : List ℕ) (p : Halves) (t : Bool) (o : Option Halves) → (eqb x b ≡ t) → ((q : Halves) → o ≡ Some q → holds b q.0 ≡ false) → cond t (Some ([], xs)) (option_map (with_front x) o) ≡ Some p → holds b p.0 ≡ false
 front_at b x xs p true o is rest e = let f : p.0 ≡ [] = cc in ap (holds b) f
-front_at b x xs p false None is rest e = absurd (let z : ◌≡◌ {A = ℕ} 0 1 = cc in omega arith)
+front_at b x xs p false None is rest e = absurd cc
 front_at b x xs p false (Some q) is rest e = let f : p.0 ≡ x ∷ q.0 = cc in ap (holds b) f ∙ or_from _ _ is (rest q refl)
 
 pub cut_first_front : (b : ℕ) (bs : List ℕ) (p : Halves) → cut_first b bs ≡ Some p → holds b p.0 ≡ false
-cut_first_front b [] p e = absurd (let z : ◌≡◌ {A = ℕ} 0 1 = cc in omega arith)
+cut_first_front b [] p e = absurd cc
 cut_first_front b (x ∷ xs) p e = front_at b x xs p (eqb x b) (cut_first b xs) refl (cut_first_front b xs) e
 
 none_at : (b x : ℕ) (xs : List ℕ) (t : Bool) (o : Option Halves) {r : Bool} → (eqb x b ≡ t) → (o ≡ None → r ≡ false) → cond t (Some ([], xs)) (option_map (with_front x) o) ≡ None → (eqb x b || r) ≡ false
-none_at b x xs true o is rest e = absurd (let z : ◌≡◌ {A = ℕ} 0 1 = cc in omega arith)
+none_at b x xs true o is rest e = absurd cc
 none_at b x xs false None is rest e = or_from _ _ is (rest refl)
-none_at b x xs false (Some q) is rest e = absurd (let z : ◌≡◌ {A = ℕ} 0 1 = cc in omega arith)
+none_at b x xs false (Some q) is rest e = absurd cc
 
 pub cut_first_none : (b : ℕ) (bs : List ℕ) → cut_first b bs ≡ None → holds b bs ≡ false
 cut_first_none b [] e = refl
@@ -131,18 +135,18 @@ cut_first_none b (x ∷ xs) e = none_at b x xs (eqb x b) (cut_first b xs) refl (
 -- no b stands behind the last one
 back_at : (b x : ℕ) (xs : List ℕ) (p : Halves) (t : Bool) (o : Option Halves) → ((q : Halves) → o ≡ Some q → holds b q.1 ≡ false) → (o ≡ None → holds b xs ≡ false) → ◌≡◌ {A = Option Halves} (elim o [ Some q ↦ Some (with_front x q) | None ↦ cond t (Some ([], xs)) None ]) (Some p) → holds b p.1 ≡ false
 back_at b x xs p true None rest none e = let f : p.1 ≡ xs = cc in ap (holds b) f ∙ none refl
-back_at b x xs p false None rest none e = absurd (let z : ◌≡◌ {A = ℕ} 0 1 = cc in omega arith)
+back_at b x xs p false None rest none e = absurd cc
 back_at b x xs p t (Some q) rest none e = let f : p.1 ≡ q.1 = cc in ap (holds b) f ∙ rest q refl
 
 last_none_at : (b x : ℕ) (xs : List ℕ) (t : Bool) (o : Option Halves) {r : Bool} → (o ≡ None → r ≡ false) → ◌≡◌ {A = Option Halves} (elim o [ Some q ↦ Some (with_front x q) | None ↦ cond t (Some ([], xs)) None ]) None → (t || r) ≡ false
-last_none_at b x xs true None rest e = absurd (let z : ◌≡◌ {A = ℕ} 0 1 = cc in omega arith)
+last_none_at b x xs true None rest e = absurd cc
 last_none_at b x xs false None rest e = rest refl
-last_none_at b x xs t (Some q) rest e = absurd (let z : ◌≡◌ {A = ℕ} 0 1 = cc in omega arith)
+last_none_at b x xs t (Some q) rest e = absurd cc
 
 pub cut_last_none : (b : ℕ) (bs : List ℕ) → cut_last b bs ≡ None → holds b bs ≡ false
 cut_last_none b [] e = refl
 cut_last_none b (x ∷ xs) e = last_none_at b x xs (eqb x b) (cut_last b xs) (cut_last_none b xs) e
 
 pub cut_last_back : (b : ℕ) (bs : List ℕ) (p : Halves) → cut_last b bs ≡ Some p → holds b p.1 ≡ false
-cut_last_back b [] p e = absurd (let z : ◌≡◌ {A = ℕ} 0 1 = cc in omega arith)
+cut_last_back b [] p e = absurd cc
 cut_last_back b (x ∷ xs) p e = back_at b x xs p (eqb x b) (cut_last b xs) (cut_last_back b xs) (cut_last_none b xs) e

@@ -69,18 +69,18 @@ pub joins_back : (text : List ℕ) → JoinsBack text
 joins_back [] = refl
 joins_back (x ∷ xs) = joined-pieces separator (x ∷ xs)
 
-arguments_some : (bs : List ℕ) → 0 < length bs → arguments bs ≡ pieces separator bs
+pub arguments_some : (bs : List ℕ) → 0 < length bs → arguments bs ≡ pieces separator bs
 arguments_some [] h = absurd (omega arith)
 arguments_some (x ∷ xs) h = refl
 
-arguments_whole : (bs : List ℕ) → AllByRecursion (Whole separator) (arguments bs)
+pub arguments_whole : (bs : List ℕ) → AllByRecursion (Whole separator) (arguments bs)
 arguments_whole [] = tt
 arguments_whole (x ∷ xs) = pieces_whole separator (x ∷ xs)
 
 pub length-arguments : (bs : List ℕ) → 0 < length bs → length (arguments bs) ≡ occurrences separator bs + 1
 length-arguments bs h = ap length (arguments_some bs h) ∙ length-pieces separator bs
 
-occurrences-le-length : (b : ℕ) (bs : List ℕ) → occurrences b bs ≤ length bs
+pub occurrences-le-length : (b : ℕ) (bs : List ℕ) → occurrences b bs ≤ length bs
 occurrences-le-length b [] = omega arith
 occurrences-le-length b (x ∷ xs) = let rest = occurrences-le-length b xs in elim (eqb x b) as (λ t. cond t 1 0 + occurrences b xs ≤ suc (length xs)) [ true ↦ omega arith | false ↦ omega arith ]
 

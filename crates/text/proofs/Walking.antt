@@ -9,10 +9,10 @@ use Rattle.text.proofs.Cutting.{cut_first_whole, cut_first_front, cut_first_none
 use Rattle.text.proofs.Edging.{edge_before, edge_behind}
 use Rattle.text.proofs.Joining.{pieces_one, pieces_cut}
 
-abbrev piece_by : Option Halves → List ℕ → List ℕ
+abbrev pub piece_by : Option Halves → List ℕ → List ℕ
 piece_by o rest = elim o [ Some p ↦ p.0 | None ↦ rest ]
 
-abbrev place_by : Option Halves → ℕ → ℕ → ℕ
+abbrev pub place_by : Option Halves → ℕ → ℕ → ℕ
 place_by o at n = elim o [ Some p ↦ at + length p.0 + 1 | None ↦ n ]
 
 -- the pieces of a text: up to the first b and behind it, or the whole

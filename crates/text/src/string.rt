@@ -1,5 +1,6 @@
 // Bytes of a text: where a byte stands, and the parts on its sides.
 // A search from the front and one from the back are two functions each, as in the library: they differ only in which of its methods they call.
+// Bytes and a byte are two parameters, as of the library's `contains`: a struct of both would be made for one call and taken apart in it.
 ghost use Rattle.std.specs.Prelude.{◌≡◌, ◌<◌, length, IfSome};
 ghost use Rattle.std.specs.Option.{option_map};
 ghost use Rattle.text.specs.Arguments.{piece_at, place_behind, CutAtEdges};

@@ -1,5 +1,5 @@
 -- Laws of reading a word, over any set. Assumes nothing.
-use Rattle.std.proofs.Common.{◌≡◌, ℕ, zero, suc, ◌+◌, ◌<◌, ◌≤◌, Bool, true, false, List, [], ◌∷◌, length, drop, Option, Some, None, sym, refl, ap, ◌∙◌, ⊎_elim, add-one, arith}
+use Rattle.std.proofs.Common.{◌≡◌, ℕ, ◌+◌, ◌<◌, ◌≤◌, Bool, true, false, List, [], ◌∷◌, length, drop, Option, Some, None, sym, refl, ap, ◌∙◌, ⊎_elim, arith}
 use Rattle.std.specs.List.{slice_get}
 use Rattle.std.specs.Bool.{then_some}
 use Rattle.std.specs.Option.{MatchOption}
@@ -28,7 +28,7 @@ module _ {W : Type 0} (spelled : W → List ℕ) where
   read_nothing cleans (w ∷ ws) = cond-false _ _ _ (other_bytes (spelled w) [] (λ e. both_ways _ (ap clean e) (cleans w))) ∙ read_nothing cleans ws
 
   spelled_by : (ws : List W) (bs : List ℕ) (w : W) → read ws spelled bs ≡ Some w → bs ≡ spelled w
-  spelled_by [] bs w e = absurd (let z : ◌≡◌ {A = ℕ} 0 1 = cc in omega arith)
+  spelled_by [] bs w e = absurd cc
   spelled_by (v ∷ ws) bs w e = ⊎_elim
       (λ t. let f : Some v ≡ Some w = sym (cond-true _ _ _ t) ∙ e in let same : v ≡ w = cc in sym ((bytes_eq-Decides (spelled v) bs).0 t) ∙ ap spelled same)
       (λ t. spelled_by ws bs w (sym (cond-false _ _ _ t) ∙ e))
@@ -44,7 +44,7 @@ module _ {W : Type 0} (spelled : W → List ℕ) where
   -- no spelling is longer than the longest
   pub spelling_fits : (ws : List W) → ((w : W) → read ws spelled (spelled w) ≡ Some w) → (w : W) → length (spelled w) ≤ longest ws spelled
   spelling_fits ws reads w = ⊎_elim
-      (λ h. absurd (let e = sym (read_longer ws (spelled w) h) ∙ reads w in let z : ◌≡◌ {A = ℕ} 0 1 = cc in omega arith))
+      (λ h. absurd (let e = sym (read_longer ws (spelled w) h) ∙ reads w in cc))
       (λ h. h)
       (cases_lt (longest ws spelled) (length (spelled w)))
 
@@ -62,7 +62,7 @@ module _ {W : Type 0} (spelled : W → List ℕ) where
 
     pub read_none : slice_get ws i ≡ None → read (drop i ws) spelled bs ≡ read (drop (i + 1) ws) spelled bs
     read_none e = ⊎_elim
-        (λ p. absurd (let same = sym e ∙ p.2 in let z : ◌≡◌ {A = ℕ} 0 1 = cc in omega arith))
+        (λ p. absurd (let same = sym e ∙ p.2 in cc))
         (λ p. read_past ws bs i p.0 ∙ sym (read_past ws bs (i + 1) (omega (arith, p.0))))
         (slice_get_cases ws i).1
 

@@ -2,6 +2,7 @@
 use Rattle.std.specs.Prelude.{◌≡◌, ℕ, ◌+◌, ◌<◌, ◌≤◌, List, [], ◌∷◌, map, length, drop, Some, None, Option}
 use Rattle.std.specs.Option.{option_map}
 use Rattle.text.specs.Arguments.{pieces, joined_by}
+use Rattle.words.specs.declared.known.KnownWords.{KnownWords}
 
 abbrev pub comma : ℕ
 comma = 44
@@ -16,6 +17,10 @@ known_in reads (p ∷ ps) = elim (reads p) [ Some w ↦ w ∷ known_in reads ps 
 
 abbrev pub known : {W : Type 0} → Reads W → List ℕ → List W
 known reads list = known_in reads (pieces comma list)
+
+-- the words that an iterator over a list has still to give
+abbrev pub words_left : {W : Type 0} → Reads W → KnownWords W → List W
+words_left reads words = known reads words.rest.now
 
 -- the first word among parts of which the first begins at a place, and the place behind its part and its comma
 abbrev pub first_in : {W : Type 0} → Reads W → ℕ → List (List ℕ) → Option (W × ℕ)

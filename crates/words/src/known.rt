@@ -4,7 +4,7 @@ ghost use Rattle.std.specs.Cmp.{on_per};
 ghost use Rattle.std.specs.Cmp.Lexicographic.{pointwise, lists_per};
 ghost use Rattle.std.specs.Iterator.{YieldsFirst, item_count};
 ghost use Rattle.std.specs.Ordering.{on};
-ghost use Rattle.words.specs.Lists.{known};
+ghost use Rattle.words.specs.Lists.{known, words_left};
 ghost use Rattle.words.specs.Reading.{read};
 
 use super::reading::next_word;
@@ -20,7 +20,7 @@ pub struct KnownWords<'a, W> {
 
 // The known words of a comma list, in their order.
 pub fn known_words<W: WordSet>(list: &[u8]) -> KnownWords<'_, W>
-    ensures { known (read W.words W.spelled) result.rest.now ≡ known (read W.words W.spelled) list.now }
+    ensures { words_left (read W.words W.spelled) result ≡ known (read W.words W.spelled) list.now }
 {
     KnownWords {
         rest: list,
@@ -31,9 +31,9 @@ pub fn known_words<W: WordSet>(list: &[u8]) -> KnownWords<'_, W>
 impl<W: WordSet> Iterator for KnownWords<'_, W> {
     type Item = W;
 
-    ghost next_gives = { YieldsFirst (λ s. known (read W.words W.spelled) s.rest.now) };
+    ghost next_gives = { YieldsFirst (words_left (read W.words W.spelled)) };
 
-    ghost remaining = { item_count (λ s. known (read W.words W.spelled) s.rest.now) };
+    ghost remaining = { item_count (words_left (read W.words W.spelled)) };
 
     fn next(&mut self) -> Option<W> {
         let (word, behind) = next_word(self.rest)?;
@@ -45,15 +45,15 @@ impl<W: WordSet> Iterator for KnownWords<'_, W> {
 // Whether the same words are left, in the same order. `==` is written by hand: a derive would compare the text that is left, and not its words.
 // `Iterator::eq` says this only through a proof, which stands here once.
 fn same_words<W: WordSet + PartialEq>(a: KnownWords<'_, W>, b: KnownWords<'_, W>) -> bool
-    ensures { result ≡ on (λ s. known (read W.words W.spelled) s.rest.now) (pointwise W.eq) a.entry b.entry }
+    ensures { result ≡ on (words_left (read W.words W.spelled)) (pointwise W.eq) a.entry b.entry }
 {
     a.eq(b)
 }
 
 impl<W: WordSet + PartialEq> PartialEq for KnownWords<'_, W> {
-    ghost eq = { on (λ s. known (read W.words W.spelled) s.rest.now) (pointwise W.eq) };
+    ghost eq = { on (words_left (read W.words W.spelled)) (pointwise W.eq) };
 
-    ghost laws = { on_per (λ s. known (read W.words W.spelled) s.rest.now) (lists_per W.PartialEq.laws) };
+    ghost laws = { on_per (words_left (read W.words W.spelled)) (lists_per W.PartialEq.laws) };
 
     fn eq(&self, other: &Self) -> bool {
         same_words(*self, *other)

@@ -1,14 +1,15 @@
-use Rattle.std.proofs.Common.{◌≡◌, Some, drop, ap, ◌∙◌, subst, rules}
+use Rattle.std.proofs.Common.{◌≡◌, Some, drop, ap, ◌∙◌, subst, arith, rules}
 use Rattle.text.specs.Arguments.{pieces}
 use Rattle.text.specs.Cuts.{cut_first}
+use Rattle.text.proofs.Cutting.{cut_first_shorter}
 use Rattle.reading.specs.Left.{behind as behind_of, first_from, first_alone}
 use Rattle.reader.specs.Turns.{TellsFrom}
-use Rattle.reader.proofs.Arguing.{argument_cut, cut_shorter}
+use Rattle.reader.proofs.Arguing.{argument_cut}
 use Rattle.reader.proofs.Turning.{tells_by, long_equipped, long_alone}
 use Rattle.reader.proofs.turns.long_turn.Goals as goal
 
 pub last-requires : goal.last-requires
-last-requires g c = cut_shorter 61 c.args.body.bytes.now (c.in-Some.name.now, c.in-Some.bytes.now) (search rules)
+last-requires g c = omega (arith, cut_first_shorter 61 c.args.body.bytes.now (c.in-Some.name.now, c.in-Some.bytes.now) (search rules))
 
 pub returns-in-Some : goal.returns-in-Some
 returns-in-Some g c =
