@@ -2,6 +2,7 @@
 ghost use Rattle.std.specs.Prelude.{◌≡◌};
 ghost use Rattle.std.specs.Option.{option_map};
 ghost use Rattle.bridge.specs.Places.{found, lengths};
+ghost use Rattle.text.specs.Cuts.{both};
 
 // A place, if there is one.
 #[repr(C)]
@@ -32,7 +33,7 @@ pub struct Lengths {
 }
 
 impl From<Option<(&[u8], &[u8])>> for Lengths {
-    ghost from_gives = { λ parts it. it ≡ lengths (option_map (λ p. (p.0.now, p.1.now)) parts) };
+    ghost from_gives = { λ parts it. it ≡ lengths (option_map both parts) };
 
     fn from(parts: Option<(&[u8], &[u8])>) -> Lengths {
         let (front, back) = parts.unwrap_or((&[], &[]));

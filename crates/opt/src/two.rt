@@ -9,10 +9,14 @@ use flags::Flag;
 use text::{rsplit_once, split_once, to_str};
 use words::{LibraryKind, read_word};
 
-// What stands in quotes: the next quote behind the first is the last byte.
+// What stands in quotes: the next quote behind the first is the last byte. One byte alone is not closed: the original's early test, which the look for the
+// second quote would cover.
 fn unquoted(value: &[u8]) -> Option<&[u8]>
     ensures { option_map (λ x. x.now) result ≡ quoted value.now }
 {
+    if value.len() < 2 {
+        return None;
+    }
     let rest = value.strip_prefix(b"\"")?;
     let (inner, behind) = split_once(rest, b'"')?;
     behind.is_empty().then_some(inner)
