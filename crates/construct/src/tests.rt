@@ -1,6 +1,6 @@
 use super::*;
 
-// The number of the kind and the place of what is made.
+// The number of the kind, as the rules list the kinds, and the place of what is made.
 fn told(code: Code, arg: &[u8]) -> Option<(u8, usize)> {
     let (flag, place) = make(code, arg)?;
     Some((flag.kind().number(), place))

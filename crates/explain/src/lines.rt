@@ -34,7 +34,7 @@ fn encoding_of(argument: &[u8]) -> &'static str
     }
 }
 
-// Adds the line of one argument.
+// Adds the line of one argument. A function and no `Display`: a type for it would be made in one place alone, to be printed there.
 fn push_line(out: &mut String, number: usize, argument: &[u8]) -> Result<(), AllocError>
     ensures { OnOk result (string_bytes out.new ≡ string_bytes out.old ++ line number argument.now) }
 {

@@ -67,7 +67,7 @@ pub enum Takes {
 }
 
 impl Kind {
-    // The number of the kind's own code. A method, so that callers can name it: `map(Kind::number)`.
+    // The number of the kind's own code. A method under the name that the documents use, and no `From`: `u8::from` would not say which number.
     pub fn number(self) -> u8
         ensures { result ≡ (about (Code.Of self)).number }
     {
@@ -159,7 +159,7 @@ impl Code {
         Code::ALL.get(place).copied()
     }
 
-    // A method too: `map(Code::number)`.
+    // A method too.
     pub fn number(self) -> u8
         ensures { result ≡ (about self).number }
     {

@@ -59,7 +59,7 @@ fn letters(rt: HostRuntime) {
     }
 }
 
-// What a table knows of `-O`, `-Z` and `--help`.
+// What a table knows of `-O`, `-Z` and `--help`: the numbers of the codes, which are what rows give.
 fn known<'a>(text: &'a [u8], rows: &'a [Row]) -> (Option<u8>, Option<u8>, Option<u8>) {
     let table = HouseTable::new(text, rows);
     (

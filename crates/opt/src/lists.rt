@@ -1,4 +1,5 @@
 // Options whose argument is a list of words with commas. Two lines each: a function over both would have to be handed the flag as a function.
+// A flag and a place are a pair, which is the project's form of it: a caller takes it apart at once.
 ghost use Rattle.std.specs.Prelude.{◌≡◌, ◌<◌, ◌≤◌, length, IfSome};
 ghost use Rattle.std.specs.Option.{option_map};
 ghost use Rattle.opt.specs.Opt.{placed, onward, crate_type_of, crate_types_of, emit_of, emits_of};

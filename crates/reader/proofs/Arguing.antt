@@ -6,6 +6,7 @@ use Rattle.flags.specs.declared.kinds.Code.{Code}
 use Rattle.text.specs.Arguments.{pieces, piece_at, place_behind}
 use Rattle.text.specs.Cuts.{Halves, cut_first}
 use Rattle.text.proofs.Cutting.{cut_first_whole}
+use Rattle.text.proofs.Walking.{piece_by, place_by}
 use Rattle.tables.specs.Tables.{Options}
 use Rattle.reading.specs.Reading.{free, long_owed}
 use Rattle.reading.specs.Left.{behind, first_from, first_taken}
@@ -43,7 +44,7 @@ argument_cut text a b x xs args cut end behind' is =
     argument_end text (xs ++ x ∷ []) a b args (cut_first_whole x a.bytes.now (xs, b.bytes.now) (sym cut) ∙ sym (append_assoc xs (x ∷ []) b.bytes.now)) end behind' is
 
 module _ (text : Bytes) (at : ℕ) where
-  front_by : (o : Option Halves) → cut_first 31 (drop at text) ≡ o → (let p : Bytes = elim o [ Some h ↦ h.0 | None ↦ drop at text ] in (take (length p) (drop at text) ≡ p) × (length p ≤ length (drop at text)))
+  front_by : (o : Option Halves) → cut_first 31 (drop at text) ≡ o → (let p : Bytes = piece_by o (drop at text) in (take (length p) (drop at text) ≡ p) × (length p ≤ length (drop at text)))
   front_by None e = (take_all (length (drop at text)) (drop at text) (le_refl _), le_refl _)
   front_by (Some h) e =
       let whole = cut_first_whole 31 (drop at text) h e in
@@ -53,14 +54,14 @@ module _ (text : Bytes) (at : ℕ) where
   piece = piece_at 31 text at
 
   module _ (in' : at ≤ length text) where
-    place_by : (o : Option Halves) → cut_first 31 (drop at text) ≡ o → (let p : ℕ = elim o [ Some h ↦ at + length h.0 + 1 | None ↦ length text ] in (at ≤ p) × (p ≤ length text))
-    place_by None e = (in', le_refl _)
-    place_by (Some h) e =
+    bounds_by : (o : Option Halves) → cut_first 31 (drop at text) ≡ o → (let p : ℕ = place_by o at (length text) in (at ≤ p) × (p ≤ length text))
+    bounds_by None e = (in', le_refl _)
+    bounds_by (Some h) e =
         let whole = cut_first_whole 31 (drop at text) h e in
         (omega arith, omega (arith, ap length whole, length-append h.0 (31 ∷ h.1), length-drop at text))
 
     pub place_bounds : (at ≤ place_behind 31 text at) × (place_behind 31 text at ≤ length text)
-    place_bounds = place_by (cut_first 31 (drop at text)) refl
+    place_bounds = bounds_by (cut_first 31 (drop at text)) refl
 
     -- the argument there
     pub argument_there : (a : Argument) → a.bytes.now ≡ piece → a.end ≡ at + length a.bytes.now → a.behind.at ≡ place_behind 31 text at → a.behind.text.now ≡ text → ArgumentAt text a (args_behind text at)
@@ -83,7 +84,7 @@ module _ (text : Bytes) (at : ℕ) where
   pub place_later : at < length text → at < place_behind 31 text at
   place_later in' = by (cut_first 31 (drop at text))
     where
-      by : (o : Option Halves) → at < (elim o as (λ _. ℕ) [ Some h ↦ at + length h.0 + 1 | None ↦ length text ])
+      by : (o : Option Halves) → at < place_by o at (length text)
       by None = in'
       by (Some h) = omega arith
 

@@ -7,7 +7,7 @@ use Rattle.flags.specs.Meaning.{Bytes}
 use Rattle.text.specs.Arguments.{pieces, piece_at, place_behind}
 use Rattle.text.specs.Cuts.{Halves, with_front, cut_first}
 use Rattle.text.proofs.Cutting.{cut_first_whole}
-use Rattle.text.proofs.Walking.{piece_by, place_by, pieces_split, pieces_uncut}
+use Rattle.text.proofs.Walking.{piece_by, place_by, pieces_split, pieces_uncut, behind_cut}
 use Rattle.tables.specs.Tables.{Options}
 use Rattle.reading.specs.Reading.{free, ended}
 use Rattle.reading.specs.Left.{between, behind, first, first_from}
@@ -36,12 +36,9 @@ module _ (text : Bytes) (at : ℕ) where
     at_end : drop (at + length p.0) text ≡ 31 ∷ p.1
     at_end = sym (drop-drop (length p.0) at text) ∙ ap (drop (length p.0)) split ∙ drop_at p.0 (31 ∷ p.1) _ refl
 
-    at_behind : drop (at + length p.0 + 1) text ≡ p.1
-    at_behind = sym (drop-drop 1 (at + length p.0) text) ∙ ap (drop 1) at_end
-
   later_by : (o : Option Halves) → cut_first 31 (drop at text) ≡ o → pieces 31 (drop (place_by o at (length text)) text) ≡ behind (args_by o)
   later_by None e = ap (pieces 31) (drop_all (length text) text (le_refl _))
-  later_by (Some p) e = ap (pieces 31) (at_behind p e) ∙ sym (some_pieces p.1)
+  later_by (Some p) e = ap (pieces 31) (behind_cut 31 text at p e) ∙ sym (some_pieces p.1)
 
   pub pieces_later : pieces 31 (drop (place_behind 31 text at) text) ≡ behind (args_behind text at)
   pieces_later = later_by (cut_first 31 (drop at text)) refl

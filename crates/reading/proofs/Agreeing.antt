@@ -23,8 +23,8 @@ module _ (o : Options) where
   abbrev by_cut : Bytes → Option Halves → Step
   by_cut body cut = elim cut [ Some halves ↦ equipped-step (o.long halves.0) halves.1 | None ↦ alone (o.long body) ]
 
-  abbrev by_letter : Option Code → Bytes → Step
-  by_letter k bs = elim k [ None ↦ ([], free) | Some c ↦ elim (about c).flag [ Some flag ↦ before flag (cluster_step o bs) | None ↦ taking_rest c bs ] ]
+  abbrev pub letter_step : Option Code → Bytes → Step
+  letter_step k bs = elim k [ None ↦ ([], free) | Some c ↦ elim (about c).flag [ Some flag ↦ before flag (cluster_step o bs) | None ↦ taking_rest c bs ] ]
 
   module _ (args : List Bytes) where
     of_form : (a : Bytes) (f : Form) → form_of a ≡ f → reading o (a ∷ args) ≡ from_step args (free_step o f)
@@ -37,14 +37,14 @@ module _ (o : Options) where
       of_equipped : (name arg : Bytes) → Named body name arg → (k : Option Code) → o.long name ≡ k → reading o (a ∷ args) ≡ from_step args (equipped-step k arg)
       of_equipped name arg n k e' = of_form a (long body) e ∙ rw (n, long_step, e')
 
-    of_letter : (b : ℕ) (bs : Bytes) (k : Option Code) → o.short b ≡ k → coming o (in_cluster (b ∷ bs) args) ≡ from_step args (by_letter k bs)
+    of_letter : (b : ℕ) (bs : Bytes) (k : Option Code) → o.short b ≡ k → coming o (in_cluster (b ∷ bs) args) ≡ from_step args (letter_step k bs)
     of_letter b bs k e = rw (e, cluster_step)
 
     of_taking : (b : ℕ) (bs : Bytes) (c : Code) → o.short b ≡ Some c → TakesOne c → coming o (in_cluster (b ∷ bs) args) ≡ from_step args (taking_rest c bs)
-    of_taking b bs c e t = of_letter b bs (Some c) e ∙ rw (t, by_letter)
+    of_taking b bs c e t = of_letter b bs (Some c) e ∙ rw (t, letter_step)
 
-    bare_step : (c : Code) (bs : Bytes) (flag : Meaning) → Bare c flag → from_step args (by_letter (Some c) bs) ≡ from_step args (before flag (cluster_step o bs))
-    bare_step c bs flag e = rw (e, by_letter)
+    bare_step : (c : Code) (bs : Bytes) (flag : Meaning) → Bare c flag → from_step args (letter_step (Some c) bs) ≡ from_step args (before flag (cluster_step o bs))
+    bare_step c bs flag e = rw (e, letter_step)
 
     alone_bare : (c : Code) (flag : Meaning) → Bare c flag → from_step args (alone (Some c)) ≡ flag ∷ reading o args
     alone_bare c flag e = rw (e, alone)
@@ -104,7 +104,7 @@ module _ (o : Options) where
         at_flag c k (Some flag) e g = bare_letter b bs c flag args _ k e g
         at_flag c k None e g = taken_rest b bs c k e
 
-        at_letter : (k : Option Code) → o.short b ≡ k → Gives o (in_cluster bs args) (from_step args (cluster_step o bs)) → Gives o (in_cluster (b ∷ bs) args) (from_step args (by_letter k bs))
+        at_letter : (k : Option Code) → o.short b ≡ k → Gives o (in_cluster bs args) (from_step args (cluster_step o bs)) → Gives o (in_cluster (b ∷ bs) args) (from_step args (letter_step k bs))
         at_letter None k g = unknown_letter b bs args _ k ih.from_free
         at_letter (Some c) k g = at_flag c k (about c).flag refl g
 

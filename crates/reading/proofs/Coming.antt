@@ -10,7 +10,7 @@ use Rattle.tables.specs.Tables.{Options}
 use Rattle.text.specs.Cuts.{Halves, cut_first}
 use Rattle.text.specs.Shapes.{Form, form_of, empty, single, double, long, short, plain}
 use Rattle.reading.specs.Reading.{State, free, long_owed, short_owed, ended, Step, equipped, alone, taking_rest, cluster_step, free_step, step, reading, reading_from}
-use Rattle.reading.proofs.Agreeing.{nothing_more}
+use Rattle.reading.proofs.Agreeing.{nothing_more, letter_step}
 use Rattle.reading.specs.Left.{Left, between, in_cluster, in_list, First, coming, behind, rest_left, first_made_of, first_taken, first_equipped, first_alone, first_rest, first_letter, first_cluster, first_free, first_of, first_from, first}
 
 module _ (o : Options) where
@@ -45,15 +45,12 @@ module _ (o : Options) where
     rest_from c [] = known (short_owed c)
     rest_from c (b ∷ bs) = taken_from c (b ∷ bs) args (later free) (known free)
 
-    abbrev letter_step : Option Code → Bytes → Step
-    letter_step k bs = elim k [ None ↦ ([], free) | Some c ↦ elim (about c).flag [ Some flag ↦ (flag ∷ (cluster_step o bs).0, (cluster_step o bs).1) | None ↦ taking_rest c bs ] ]
-
     module _ (c : Code) (bs : Bytes) where
       letter_by : (f : Option Meaning) → (let s : Step = elim f [ Some flag ↦ (flag ∷ (cluster_step o bs).0, (cluster_step o bs).1) | None ↦ taking_rest c bs ] in s.0 ++ reading_from o s.1 args) ≡ all_from (elim f [ Some flag ↦ Some (flag, in_cluster bs args) | None ↦ first_rest args later c bs ])
       letter_by None = rest_from c bs
       letter_by (Some flag) = refl
 
-    letter_from : (k : Option Code) (bs : Bytes) → (letter_step k bs).0 ++ reading_from o (letter_step k bs).1 args ≡ all_from (first_letter args later k bs)
+    letter_from : (k : Option Code) (bs : Bytes) → (letter_step o k bs).0 ++ reading_from o (letter_step o k bs).1 args ≡ all_from (first_letter args later k bs)
     letter_from None bs = known free
     letter_from (Some c) bs = letter_by c bs (about c).flag
 

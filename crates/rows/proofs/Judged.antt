@@ -4,7 +4,7 @@ use Rattle.std.specs.List.{slice_get, list_all}
 use Rattle.std.specs.Option.{option_map}
 use Rattle.std.specs.Str.{bytes_eq}
 use Rattle.std.proofs.lemmas.List.Sums.{AllPass-from_list_all, list_all-from_AllPass}
-use Rattle.std.proofs.lemmas.Option.{get_or_from_slice_get, slice_get-get_or, slice_get_cases}
+use Rattle.std.proofs.lemmas.Option.{get_or_from_slice_get, same_Some, slice_get-get_or, slice_get_cases}
 use Rattle.std.proofs.lemmas.Slice.Eq.{bytes_eq-Decides}
 use Rattle.std.proofs.lemmas.Bool.{and_parts, and_from, or_parts, or_from, both_ways, cases_Bool, cond-true, cond-false, eqb-true, eqb-false, eq-eqb, ne_eqb, leb-true, le-leb, ltb-true, lt-ltb, not-true, not_from_false}
 use Rattle.text.specs.Cuts.{begins}
@@ -22,9 +22,6 @@ use Rattle.rows.specs.declared.rows.Row.{Row}
 -- Lists by their places.
 
 module _ {X : Type 0} where
-  first_place : (y x : X) (xs : List X) → slice_get (y ∷ xs) 0 ≡ Some x → y ≡ x
-  first_place y x xs e = cc
-
   module _ (test : X → Bool) where
     every_there : (xs : List X) → list_all test xs ≡ true → (i : ℕ) (x : X) → slice_get xs i ≡ Some x → test x ≡ true
     every_there xs all i x e = ⊎_elim
@@ -42,7 +39,7 @@ Apart rows = (i j : ℕ) (a b : Row) → i < j → slice_get rows i ≡ Some a �
 
 behind_place : (place : ℕ) (rows : List Row) → in_order place rows ≡ true → (j : ℕ) (b : Row) → slice_get rows j ≡ Some b → place ≤ b.offset
 behind_place place [] o j b e = absurd (cc)
-behind_place place (row ∷ rows) o zero b e = subst (λ (r : Row). place ≤ r.offset) (first_place row b rows e) (leb-true place row.offset (and_parts (leb place row.offset) (in_order (row.offset + row.length) rows) o).0)
+behind_place place (row ∷ rows) o zero b e = subst (λ (r : Row). place ≤ r.offset) (same_Some row b e) (leb-true place row.offset (and_parts (leb place row.offset) (in_order (row.offset + row.length) rows) o).0)
 behind_place place (row ∷ rows) o (suc j) b e =
     let parts = and_parts (leb place row.offset) (in_order (row.offset + row.length) rows) o in
     let here : place ≤ row.offset = leb-true place row.offset parts.0 in
@@ -52,7 +49,7 @@ behind_place place (row ∷ rows) o (suc j) b e =
 apart_from : (place : ℕ) (rows : List Row) → in_order place rows ≡ true → Apart rows
 apart_from place [] o i j a b l e f = absurd (cc)
 apart_from place (row ∷ rows) o zero zero a b l e f = absurd (omega arith)
-apart_from place (row ∷ rows) o zero (suc j) a b l e f = subst (λ (r : Row). r.offset + r.length ≤ b.offset) (first_place row a rows e) (behind_place (row.offset + row.length) rows (and_parts (leb place row.offset) (in_order (row.offset + row.length) rows) o).1 j b f)
+apart_from place (row ∷ rows) o zero (suc j) a b l e f = subst (λ (r : Row). r.offset + r.length ≤ b.offset) (same_Some row a e) (behind_place (row.offset + row.length) rows (and_parts (leb place row.offset) (in_order (row.offset + row.length) rows) o).1 j b f)
 apart_from place (row ∷ rows) o (suc i) zero a b l e f = absurd (omega arith)
 apart_from place (row ∷ rows) o (suc i) (suc j) a b l e f = apart_from (row.offset + row.length) rows (and_parts (leb place row.offset) (in_order (row.offset + row.length) rows) o).1 i j a b (omega arith) e f
 
@@ -88,7 +85,7 @@ module _ (text : List ℕ) where
 
   named_some : (rows : List Row) (n : List ℕ) (j : ℕ) (b : Row) → slice_get rows j ≡ Some b → name_of text b ≡ n → is_some (number_at text rows n) ≡ true
   named_some [] n j b e same = absurd (cc)
-  named_some (row ∷ rows) n zero b e same = ap is_some (number_first row rows n ((bytes_eq-Decides (name_of text row) n).1 (ap (name_of text) (first_place row b rows e) ∙ same)))
+  named_some (row ∷ rows) n zero b e same = ap is_some (number_first row rows n ((bytes_eq-Decides (name_of text row) n).1 (ap (name_of text) (same_Some row b e) ∙ same)))
   named_some (row ∷ rows) n (suc j) b e same = ⊎_elim
       (λ t. ap is_some (number_first row rows n t))
       (λ t. ap is_some (number_next row rows n t) ∙ named_some rows n j b e same)
@@ -106,7 +103,7 @@ module _ (text : List ℕ) where
   once_from (row ∷ rows) o zero zero a b l e f same = absurd (omega arith)
   once_from (row ∷ rows) o zero (suc j) a b l e f same =
       let none = (or_parts (is_some (number_at text rows (name_of text row))) (names_twice text rows) o).0 in
-      both_ways (is_some (number_at text rows (name_of text row))) none (named_some rows (name_of text row) j b f (sym (ap (name_of text) (first_place row a rows e) ∙ same)))
+      both_ways (is_some (number_at text rows (name_of text row))) none (named_some rows (name_of text row) j b f (sym (ap (name_of text) (same_Some row a e) ∙ same)))
   once_from (row ∷ rows) o (suc i) zero a b l e f same = absurd (omega arith)
   once_from (row ∷ rows) o (suc i) (suc j) a b l e f same = once_from rows (or_parts (is_some (number_at text rows (name_of text row))) (names_twice text rows) o).1 i j a b (omega arith) e f same
 
@@ -124,7 +121,7 @@ module _ (text : List ℕ) where
   number_there : (rows : List Row) → Once rows → (j : ℕ) (own : Row) → slice_get rows j ≡ Some own → number_at text rows (name_of text own) ≡ Some own.code
   number_there [] once j own e = absurd (cc)
   number_there (row ∷ rows) once zero own e =
-      let same = first_place row own rows e in
+      let same = same_Some row own e in
       number_first row rows (name_of text own) ((bytes_eq-Decides (name_of text row) (name_of text own)).1 (ap (name_of text) same)) ∙ ap (λ (r : Row). Some r.code) same
   number_there (row ∷ rows) once (suc j) own e = ⊎_elim
       (λ t. absurd (once 0 (suc j) row own (omega arith) refl e ((bytes_eq-Decides (name_of text row) (name_of text own)).0 t)))
@@ -144,7 +141,7 @@ byte_from b h = and_from (leb 33 b && leb b 126) (not (eqb b 61)) (and_from (leb
 
 begins_there : (n : List ℕ) → slice_get n 0 ≡ Some 45 → begins 45 n ≡ true
 begins_there [] e = absurd (cc)
-begins_there (b ∷ n) e = eq-eqb b 45 (first_place b 45 n e)
+begins_there (b ∷ n) e = eq-eqb b 45 (same_Some b 45 e)
 
 there_begins : (n : List ℕ) → begins 45 n ≡ true → slice_get n 0 ≡ Some 45
 there_begins [] e = absurd (both_ways false refl e)

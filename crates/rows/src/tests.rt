@@ -126,7 +126,7 @@ fn good(rt: HostRuntime) {
     assert_eq!(rt; verdict(b"O", &[row(0, 1, 32)]), Some(10));
 }
 
-// 256 rows and 257: `C`, and names of two letters.
+// 256 rows and 257: `C`, and names of two letters, which tell their place. 257 rows with another fault beside get 8 too.
 #[test]
 fn counts(rt: HostRuntime) {
     let mut text = [b'C'; 513];
@@ -139,4 +139,12 @@ fn counts(rt: HostRuntime) {
     }
     assert_eq!(rt; verdict(&text, &rows[0..256]), None);
     assert_eq!(rt; verdict(&text, &rows), Some(8));
+    let with = |place: usize, other: Row| {
+        let mut changed = rows;
+        changed[place] = other;
+        verdict(&text, &changed)
+    };
+    assert_eq!(rt; with(1, row(1, 0, 31)), Some(8));
+    assert_eq!(rt; with(256, row(1, 2, 31)), Some(8));
+    assert_eq!(rt; with(0, row(0, 1, 31)), Some(8));
 }

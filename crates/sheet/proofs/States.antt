@@ -10,7 +10,7 @@ use Rattle.text.specs.declared.refusals.Refusal.TheVariants.{NoSpace}
 use Rattle.sinks.specs.Sinks.{Held, refusal, first_bar, write_told, written, finished}
 use borrow.Rule.Slice.PartMut.{put_mid}
 use Rattle.sheet.specs.Rows.{Chained, chained, cut_up, ClearFrom}
-use Rattle.sheet.specs.Sheet.{limit_of, places, rules_at, content, filled, filled_rows}
+use Rattle.sheet.specs.Sheet.{places, rules_at, content, filled, filled_rows}
 use Rattle.sheet.specs.State.{held, beyond}
 use Rattle.sheet.specs.declared.state.Sheet.{Sheet}
 use Rattle.sheet.proofs.Rowing as row
@@ -114,9 +114,6 @@ module _ (s : Sheet) where
 
   -- a part of the buffer is written
   module _ (from k : ℕ) (ys : List ℕ) (fit : from + k ≤ s.limit) (same : length ys ≡ length (take k (drop from bytes))) where
-    pub write_limited : s.limit ≡ limit_of (length (put_mid from k bytes ys))
-    write_limited = s.limited ∙ ap limit_of (sym (row.length_kept s.limit from k bytes ys fit limit_fits.0 same))
-
     pub write_beyond : drop s.limit (put_mid from k bytes ys) ≡ beyond s
     write_beyond = row.beyond_kept s.limit from k bytes ys fit limit_fits.0 same
 
@@ -162,13 +159,6 @@ module _ (s : Sheet) where
           sym (drop-take s.finished (n + length bs) added) ∙ ap (drop s.finished) (take-put_mid (s.finished + n) k bytes ys (s.finished + (n + length bs)) (omega (arith, ap length is)) in')
           ∙ drop-append-le s.finished (take (s.finished + n) bytes) ys front ∙ (λ i. drop-take s.finished n bytes i ++ is i) in
           (λ i. record { list = cut_up rows (text' i); pending = Some (tail' i) }) ∙ sym (ap (λ o. written None bs (at o)) open')
-
-    -- its bytes are dropped
-    pub drop_zeros : (new : List ℕ) → drop s.finished new ≡ replicate (s.finished + n - s.finished) 0 ++ drop (s.finished + n) bytes → ((m : ℕ) → s.finished + n ≤ m → drop m new ≡ drop m bytes) → ClearFrom 0 s.limit (s.finished + 0) new
-    drop_zeros new zeros behind =
-        let fit : s.finished + n ≤ s.limit = omega (arith, s.within, open_end) in
-        let was : ClearFrom 0 s.limit (s.finished + n) bytes = subst (λ m. ClearFrom 0 s.limit m bytes) open_end s.zeros in
-        subst (λ m. ClearFrom 0 s.limit m new) (sym (add-zero s.finished)) (row.clear_more 0 s.limit s.finished (s.finished + n) bytes new (omega arith) fit zeros (behind s.limit fit) was)
 
     -- the open argument gets its row
     module _ (p : ℕ × ℕ) (is : p ≡ (s.finished, n)) where

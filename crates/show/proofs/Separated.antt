@@ -4,16 +4,12 @@ use Rattle.escape.specs.Escaped.{escaped}
 use Rattle.words.specs.Spellings as word
 use Rattle.words.specs.declared.link.Modifier.{Modifier}
 use Rattle.flags.specs.Meaning.{Bytes}
-use Rattle.show.specs.Shown.{modifier, modifiers, further}
+use Rattle.show.specs.Shown.{modifier, further}
 
 -- what is left to print, where a separator comes next
 abbrev pub left : Bytes → List Modifier → Bytes
 left separator [] = []
 left separator (m ∷ ms) = separator ++ (modifier m ++ further ms)
-
-pub at_first : (ms : List Modifier) → left [] ms ≡ modifiers ms
-at_first [] = refl
-at_first (m ∷ ms) = refl
 
 behind_comma : (ms : List Modifier) → left (codes ",") ms ≡ further ms
 behind_comma [] = refl

@@ -65,7 +65,7 @@ impl fmt::Display for Fields<'_> {
             | Flag::Sysroot(text)
             | Flag::Z(text)
             | Flag::Json(text) => write!(f, " {}", Quoted(text)),
-            // Words of five types, so each has an arm.
+            // Words of five types, so each has an arm. No `Display` of words: it would print what the escape of a spelling prints.
             Flag::CrateType(word) => write!(f, " {}", Escaped(word.spelling())),
             Flag::Emit(word) => write!(f, " {}", Escaped(word.spelling())),
             Flag::CapLints(word) => write!(f, " {}", Escaped(word.spelling())),

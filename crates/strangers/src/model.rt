@@ -60,7 +60,7 @@ impl Model {
         Ok(())
     }
 
-    // The first byte that does not go in is told.
+    // The first byte that does not go in is told. Byte by byte, as the rules say it: a model shares no search with what it is held against.
     fn check_bytes(&self, bytes: &[u8]) -> Result<(), Refusal> {
         let mut left = self.size.saturating_sub(self.used());
         for b in bytes {

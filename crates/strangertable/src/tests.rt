@@ -2,11 +2,12 @@ use super::*;
 use flags::{Code, Kind};
 use tables::{Rustc, Table, knows};
 
+// Codes stand here by their numbers, as the rules list them.
 #[test]
 fn knows_one_kind(rt: HostRuntime) {
     for place in 0..33u8 {
         if let Ok(Code::Of(kind)) = Code::try_from(place) {
-            assert_eq!(rt; knows(&OnlyZ, kind), place == 26);
+            assert_eq!(rt; knows(&OnlyZ, kind), kind == Kind::Z);
             assert!(rt; knows(&Rustc, kind));
         }
     }

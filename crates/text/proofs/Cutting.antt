@@ -2,6 +2,7 @@
 use Rattle.std.proofs.Common.{◌≡◌, ℕ, zero, suc, ◌<◌, ◌≢◌, Bool, true, false, cond, ◌||◌, eqb, List, [], ◌∷◌, ◌++◌, length, get_or, Some, None, Option, MatchOption, IfSome, refl, sym, ap, ◌∙◌, arith, length-append}
 use Rattle.std.specs.Option.{option_map}
 use Rattle.std.proofs.lemmas.Bool.{ne_eqb, eq-eqb, eqb-true, or_from}
+use Rattle.std.proofs.lemmas.Option.{IfSome_then}
 use Rattle.text.specs.Cuts.{holds, first_place, last_place, Halves, sides, with_front, cut_first, cut_last}
 
 module _ (b : ℕ) where
@@ -77,10 +78,6 @@ pub first_held : (b : ℕ) (bs : List ℕ) → IfSome (first_place b bs) (Holds 
 first_held b [] = tt
 first_held b (x ∷ xs) = first_held_at b x xs (eqb x b) (first_place b xs) refl (first_held b xs)
 
-within : (b : ℕ) (bs : List ℕ) (place : Option ℕ) → IfSome place (Holds b bs) → IfSome place (λ i. i < length bs)
-within b bs None held = tt
-within b bs (Some i) held = held.0
-
 pub last_held : (b : ℕ) (bs : List ℕ) → IfSome (last_place b bs) (Holds b bs)
 last_held b [] = tt
 last_held b (x ∷ xs) = last_held_at b x xs (eqb x b) (last_place b xs) refl (last_held b xs)
@@ -88,10 +85,10 @@ last_held b (x ∷ xs) = last_held_at b x xs (eqb x b) (last_place b xs) refl (l
 -- the same of a place that is found, as a cut there asks for it and as it gives the sides
 module _ (b : ℕ) (bs : List ℕ) (place : Option ℕ) where
   pub first_within : place ≡ first_place b bs → IfSome place (λ i. i < length bs)
-  first_within e = rw e (within b bs _ (first_held b bs))
+  first_within e = rw e (IfSome_then (first_place b bs) (first_held b bs) (λ i (held : Holds b bs i). held.0))
 
   pub last_within : place ≡ last_place b bs → IfSome place (λ i. i < length bs)
-  last_within e = rw e (within b bs _ (last_held b bs))
+  last_within e = rw e (IfSome_then (last_place b bs) (last_held b bs) (λ i (held : Holds b bs i). held.0))
 
   pub cut_first_by : (r : Option Halves) → place ≡ first_place b bs → r ≡ option_map (sides bs) place → r ≡ cut_first b bs
   cut_first_by r e s = s ∙ ap (option_map (sides bs)) e ∙ sym (cut_first_sides b bs)

@@ -21,7 +21,7 @@ module _ (b : ℕ) where
   length-pieces [] = refl
   length-pieces (x ∷ xs) = count_at (eqb x b) x (pieces b xs) (occurrences b xs) (length-pieces xs)
 
-  pieces_some : (bs : List ℕ) → 0 < length (pieces b bs)
+  pub pieces_some : (bs : List ℕ) → 0 < length (pieces b bs)
   pieces_some bs = omega (arith, length-pieces bs)
 
   joined_empty : (ps : List (List ℕ)) → 0 < length ps → joined_by b ([] ∷ ps) ≡ b ∷ joined_by b ps

@@ -1,7 +1,6 @@
 -- The piece at a place, from the cut of what is left there. Assumes nothing.
-use Rattle.std.proofs.Common.{◌≡◌, ℕ, ◌+◌, ◌<◌, ◌⊎◌, List, [], ◌∷◌, ◌++◌, length, get_or, drop, Some, None, Option, sym, refl, ap, ◌∙◌, subst, inl, inr, arith, length-append, length-drop}
-use Rattle.std.proofs.Math.Seq.{drop-append-add}
-use Rattle.std.proofs.lemmas.List.{get_or-drop, get_or_at, drop-drop}
+use Rattle.std.proofs.Common.{◌≡◌, ℕ, ◌+◌, ◌<◌, List, [], ◌∷◌, ◌++◌, length, get_or, drop, Some, None, Option, sym, refl, ap, ◌∙◌, subst, arith, length-append, length-drop}
+use Rattle.std.proofs.lemmas.List.{get_or-drop, get_or_at, drop-drop, drop_at}
 use Rattle.text.specs.Arguments.{pieces, piece_at, place_behind, CutAtEdges}
 use Rattle.text.specs.Cuts.{Halves, cut_first}
 use Rattle.text.specs.Edges.{Edge, end}
@@ -34,6 +33,10 @@ module _ (b : ℕ) (bs : List ℕ) (at : ℕ) where
     split : drop at bs ≡ h.0 ++ b ∷ h.1
     split = cut_first_whole b (drop at bs) h cut
 
+    -- what is left behind the byte
+    pub behind_cut : drop (at + length h.0 + 1) bs ≡ h.1
+    behind_cut = sym (drop-drop 1 (at + length h.0) bs) ∙ ap (drop 1) (sym (drop-drop (length h.0) at bs) ∙ ap (drop (length h.0)) split ∙ drop_at h.0 (b ∷ h.1) _ refl)
+
     byte_there : get_or bs (at + length h.0) 0 ≡ b
     byte_there = sym (get_or-drop at bs (length h.0) 0) ∙ ap (λ l. get_or l (length h.0) 0) split ∙ get_or_at h.0 b h.1 0 _ refl
 
@@ -46,9 +49,7 @@ module _ (b : ℕ) (bs : List ℕ) (at : ℕ) where
         }
 
     rest_there : h.1 ≡ drop (place_behind b bs at) bs
-    rest_there =
-        let e : at + (length h.0 + 1) ≡ place_behind b bs at = omega (arith, place_there) in
-        sym (ap (drop (length h.0 + 1)) split ∙ drop-append-add h.0 (b ∷ h.1) 1) ∙ drop-drop (length h.0 + 1) at bs ∙ ap (λ n. drop n bs) e
+    rest_there = sym behind_cut ∙ ap (λ n. drop n bs) place_there
 
     pieces_more : pieces b (drop at bs) ≡ piece_at b bs at ∷ pieces b (drop (place_behind b bs at) bs)
     pieces_more = pieces_split b (drop at bs) h cut ∙ (λ i. piece_there i ∷ pieces b (rest_there i))
@@ -75,11 +76,3 @@ module _ (b : ℕ) (bs : List ℕ) (at : ℕ) where
       by_cut : (o : Option Halves) → cut_first b (drop at bs) ≡ o → CutAtEdges b bs at
       by_cut None e = edges_last e
       by_cut (Some h) e = edges_there h e ascii
-
-  -- the pieces of what is left: the piece there, and the pieces of what is behind it, or none
-  pub pieces_there : (pieces b (drop at bs) ≡ piece_at b bs at ∷ []) ⊎ (pieces b (drop at bs) ≡ piece_at b bs at ∷ pieces b (drop (place_behind b bs at) bs))
-  pieces_there = by_cut (cut_first b (drop at bs)) refl
-    where
-      by_cut : (o : Option Halves) → cut_first b (drop at bs) ≡ o → (pieces b (drop at bs) ≡ piece_at b bs at ∷ []) ⊎ (pieces b (drop at bs) ≡ piece_at b bs at ∷ pieces b (drop (place_behind b bs at) bs))
-      by_cut None e = inl (pieces_last e)
-      by_cut (Some h) e = inr (pieces_more h e)

@@ -30,7 +30,7 @@ pub enum Refusal {
 }
 
 impl Refusal {
-    // The number that callers see. A method, so that callers can name it: `map_err(Refusal::number)`.
+    // The number that callers see. A method under the name that the documents use, and no `From`: `u8::from` would not say which number.
     pub fn number(self) -> u8
         ensures { result ≡ number_of self }
     {

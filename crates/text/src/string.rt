@@ -10,7 +10,7 @@ ghost use Rattle.text.specs.Texts.{text_of};
 
 use utf8::is_utf8;
 
-// The bytes, if they are a text.
+// The bytes, if they are a text. They stay bytes and become no `&str`: the fields of a flag are bytes, texts and paths alike.
 pub fn to_str(bytes: &[u8]) -> Option<&[u8]>
     ensures { option_map (λ x. x.now) result ≡ text_of bytes.now }
 {

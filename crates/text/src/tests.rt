@@ -43,10 +43,11 @@ fn iterates(rt: HostRuntime) {
         (b"-C\x1fa=b\x1f\x1f-V", &[b"-C", b"a=b", b"", b"-V"]),
     ];
     for (text, list) in cases {
-        assert_eq!(rt; arguments_of(text).count(), list.len());
-        for (i, argument) in arguments_of(text).enumerate() {
-            assert!(rt; list.get(i) == Some(&argument));
+        let mut given = arguments_of(text);
+        for argument in list {
+            assert!(rt; given.next() == Some(*argument));
         }
+        assert!(rt; given.next().is_none());
     }
 }
 

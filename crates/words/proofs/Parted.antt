@@ -1,14 +1,14 @@
 -- A comma list, part by part. Assumes nothing.
-use Rattle.std.proofs.Common.{◌≡◌, ℕ, zero, suc, ◌+◌, ◌<◌, ◌≤◌, true, List, [], ◌∷◌, ◌++◌, map, length, drop, Some, None, Option, sym, refl, ap, ◌∙◌, ⊎_elim, le_refl, arith, length-append, length-drop}
+use Rattle.std.proofs.Common.{◌≡◌, ℕ, zero, suc, ◌+◌, ◌<◌, ◌≤◌, true, List, [], ◌∷◌, map, length, drop, Some, None, Option, sym, refl, ap, ◌∙◌, ⊎_elim, le_refl, arith, length-append, length-drop}
 use Rattle.std.specs.Option.{option_map}
 use Rattle.std.specs.List.{AllByRecursion}
 use Rattle.std.proofs.lemmas.Bool.{and_parts, cases_lt, not-true, false≢true}
-use Rattle.std.proofs.lemmas.List.{drop_all, drop-drop, drop_at}
+use Rattle.std.proofs.lemmas.List.{drop_all}
 use Rattle.text.specs.Arguments.{Whole, pieces, piece_at, place_behind}
 use Rattle.text.specs.Cuts.{Halves, cut_first}
 use Rattle.text.proofs.Cutting.{cut_first_whole}
-use Rattle.text.proofs.Joining.{length-pieces, pieces-joined}
-use Rattle.text.proofs.Walking.{pieces_split, pieces_uncut}
+use Rattle.text.proofs.Joining.{pieces_some, pieces-joined}
+use Rattle.text.proofs.Walking.{piece_by, place_by, pieces_split, pieces_uncut, behind_cut}
 use Rattle.words.specs.Lists.{comma, Reads, known_in, known, first_in, first_known, from_first, first_from, ListsReadBack, Ended, Part}
 use Rattle.words.specs.Reading.{read, clean}
 use Rattle.words.proofs.Spelled.{read_nothing}
@@ -43,24 +43,18 @@ module _ {W : Type 0} (reads : Reads W) where
         abbrev behind : ℕ
         behind = at + length p.0 + 1
 
-        split : drop at list ≡ p.0 ++ comma ∷ p.1
-        split = cut_first_whole comma (drop at list) p cut
-
         rest : drop behind list ≡ p.1
-        rest = sym (drop-drop 1 (at + length p.0) list) ∙ ap (drop 1) (sym (drop-drop (length p.0) at list) ∙ ap (drop (length p.0)) split ∙ drop_at p.0 (comma ∷ p.1) _ refl)
+        rest = behind_cut comma list at p cut
 
         parts : pieces comma (drop at list) ≡ p.0 ∷ pieces comma (drop behind list)
         parts = pieces_split comma (drop at list) p cut ∙ ap (λ l. p.0 ∷ pieces comma l) (sym rest)
 
-        some : 0 < length (pieces comma (drop behind list))
-        some = omega (arith, length-pieces comma (drop behind list))
-
         between : Part reads list at p.0 behind
         between = record {
           onward = omega arith;
-          within = omega (arith, length-drop at list, simp length-append at (ap length split));
-          first_here = λ w e. ap (first_in reads at) parts ∙ first_here at p.0 _ some w e;
-          first_later = λ e. ap (first_in reads at) parts ∙ first_other at p.0 _ some e;
+          within = omega (arith, length-drop at list, simp length-append at (ap length (cut_first_whole comma (drop at list) p cut)));
+          first_here = λ w e. ap (first_in reads at) parts ∙ first_here at p.0 _ (pieces_some comma (drop behind list)) w e;
+          first_later = λ e. ap (first_in reads at) parts ∙ first_other at p.0 _ (pieces_some comma (drop behind list)) e;
           one_more = λ w e. ap (known_in reads) parts ∙ known_here p.0 _ w e;
           no_more = λ e. ap (known_in reads) parts ∙ known_other p.0 _ e;
         }
@@ -85,7 +79,7 @@ module _ {W : Type 0} (reads : Reads W) where
           no_more = λ e. ap (known_in reads) alone ∙ known_other (drop at list) [] e ∙ sym end.all;
         }
 
-      part_by : (o : Option Halves) → cut_first comma (drop at list) ≡ o → Part reads list at (elim o [ Some p ↦ p.0 | None ↦ drop at list ]) (elim o [ Some p ↦ at + length p.0 + 1 | None ↦ length list ])
+      part_by : (o : Option Halves) → cut_first comma (drop at list) ≡ o → Part reads list at (piece_by o (drop at list)) (place_by o at (length list))
       part_by (Some p) cut = between p cut
       part_by None cut = last cut
 

@@ -51,8 +51,8 @@ fn part_at<W: WordSet>(list: &[u8], at: usize) -> Option<(&[u8], usize)>
     }
 }
 
-// The first part of a comma list that is a word of the set, and the place behind it and its comma. One nested loop over parts and words, left by its label:
-// the project's form.
+// The first part of a comma list that is a word of the set, and the place behind it and its comma: a pair, which is the project's form of it.
+// One nested loop over parts and words, left by its label: a form of the project too.
 pub fn next_word<W: WordSet>(list: &[u8]) -> Option<(W, usize)>
     ensures answer { result ≡ first_known (read W.words W.spelled) list.now }
     ensures within { IfSome result (λ p. (0 < p.1) × (p.1 ≤ length list.now)) }
