@@ -2,11 +2,13 @@
 #![tactic(auto)]
 
 mod cursor;
+mod look;
 mod place;
 mod reader;
 mod turns;
 
 pub use cursor::Cursor;
+pub use look::Look;
 
 #[cfg(test)]
 mod tests;

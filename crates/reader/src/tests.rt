@@ -61,3 +61,32 @@ fn reads(rt: HostRuntime) {
         assert!(rt; told(text) == expected);
     }
 }
+
+// The kinds of the flags that a look gives, up to three of them.
+fn looked(look: &mut Look<'_>, text: &[u8]) -> [Option<u8>; 3] {
+    let mut kinds = [None; 3];
+    for kind in &mut kinds {
+        *kind = look.next(text, &Rustc).map(|flag| flag.kind().number());
+    }
+    kinds
+}
+
+#[test]
+fn looks(rt: HostRuntime) {
+    let text = b"-hV\x1f--emit=link,asm";
+    let mut cursor = Cursor::between(0);
+    let before = cursor;
+    {
+        let mut look = cursor.look();
+        assert!(rt; looked(&mut look, text) == [Some(0), Some(21), Some(7)]);
+        assert!(rt; looked(&mut look, text) == [Some(7), None, None]);
+    }
+    assert!(rt; cursor == before);
+    for kind in [Some(0), Some(21), Some(7), Some(7), None] {
+        assert!(rt; cursor.peek(text, &Rustc).map(|flag| flag.kind().number()) == kind);
+        assert!(rt; cursor.next(text, &Rustc).map(|flag| flag.kind().number()) == kind);
+    }
+    // a look at another text, and one past its end
+    assert!(rt; cursor.peek(b"-g", &Rustc).is_none());
+    assert!(rt; cursor.ended(text));
+}
