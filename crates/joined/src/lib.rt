@@ -6,3 +6,6 @@ mod state;
 mod steps;
 
 pub use state::Joined;
+
+#[cfg(test)]
+mod tests;

@@ -8,7 +8,7 @@ ghost use Rattle.joined.specs.Parts.{bytes_bar, Text, Front};
 ghost use Rattle.joined.specs.State.{held, size, lasting, CanBegin, CanWrite, CanFinish};
 
 use super::state::Joined;
-use text::{Refusal, SEPARATOR, find};
+use text::{Refusal, SEPARATOR, find, rfind};
 
 // Writes a separator behind a text, unless that is empty. Answers where the next argument starts.
 fn separate(bytes: &mut [u8], end: usize) -> usize
@@ -112,20 +112,18 @@ impl<'a> Joined<'a> {
         Ok(())
     }
 
-    // Where the text of the first n arguments ends: at the nth separator.
+    // Where the text of the first n arguments ends: back over the others from the end, to the separator before each.
+    // The first argument has none before it.
+    #[tactic(auto, using(crate::proofs::Fronts::walked_back))]
     pub(crate) fn front(&self, n: usize) -> usize
         requires { n < self.now.count }
         ensures { Front self.now.buffer.now self.now.finished n result }
     {
-        let Some(before) = n.checked_sub(1) else {
-            return 0;
-        };
-        self.buffer[..self.finished]
-            .iter()
-            .enumerate()
-            .filter(|(_, b)| **b == SEPARATOR)
-            .nth(before)
-            .map_or(self.finished, |(at, _)| at)
+        let mut at = self.finished;
+        for _ in n..self.count {
+            at = rfind(&self.buffer[..at], SEPARATOR).unwrap_or(0);
+        }
+        at
     }
 
     // Keeps so many arguments, whose text ends at a place, and drops what is behind it.
