@@ -44,7 +44,7 @@ impl<'a> Joined<'a> {
         self.start.ok_or(Refusal::OutOfTurn)
     }
 
-    // Declines a call that no open argument allows. The sheet has the same three lines over a field of its own:
+    // Declines a call that no open argument allows. The sheet has the same lines, here and in `check_open`, over a field of its own:
     // one function over an Option would need a clause as long.
     pub(crate) fn check_shut(&self) -> Result<(), Refusal>
         ensures answer { verdict result ≡ cut_told (held self.now) }
