@@ -11,7 +11,7 @@ use Rattle.tables.specs.Tables.{Options}
 use Rattle.reading.specs.Reading.{free, long_owed}
 use Rattle.reading.specs.Left.{behind, first_from, first_taken}
 use Rattle.reader.specs.Cursors.{args_behind}
-use Rattle.reader.specs.Turns.{ArgumentAt}
+use Rattle.reader.specs.Turns.{ArgumentAt, PartAt}
 use Rattle.reader.specs.declared.place.Place.{Place}
 use Rattle.reader.specs.declared.place.Argument.{Argument}
 use Rattle.reader.proofs.Leaving.{pieces_here, pieces_later, pieces-at_end}
@@ -26,14 +26,18 @@ end_there text xs ys end long there =
     ∙ drop-take (length xs) (length ys) (drop (end - length (xs ++ ys)) text)
     ∙ ap (take (length ys)) (drop-drop (length xs) (end - length (xs ++ ys)) text ∙ ap (λ n. drop n text) from)
 
+-- the last bytes of a part of a text are one there
+pub part_end : (text xs : Bytes) (a b : Argument) → a.bytes.now ≡ xs ++ b.bytes.now → b.end ≡ a.end → b.behind ≡ a.behind → PartAt text a → PartAt text b
+part_end text xs a b e end behind' is = record {
+  there = subst (λ n. b.bytes.now ≡ take (length b.bytes.now) (drop (n - length b.bytes.now) text)) (sym end) (end_there text xs b.bytes.now a.end (subst (λ l. length l ≤ a.end) e a.long) (subst (λ l. l ≡ take (length l) (drop (a.end - length l) text)) e is.there));
+  within = subst (λ n. n ≤ length text) (sym end) is.within;
+  same_text = ap (λ (p : Place). p.text.now) behind' ∙ is.same_text;
+}
+
 -- the last bytes of an argument are an argument there
 pub argument_end : (text xs : Bytes) (a b : Argument) (args : List Bytes) → a.bytes.now ≡ xs ++ b.bytes.now → b.end ≡ a.end → b.behind ≡ a.behind → ArgumentAt text a args → ArgumentAt text b args
 argument_end text xs a b args e end behind' is = record {
-  part = record {
-    there = subst (λ n. b.bytes.now ≡ take (length b.bytes.now) (drop (n - length b.bytes.now) text)) (sym end) (end_there text xs b.bytes.now a.end (subst (λ l. length l ≤ a.end) e a.long) (subst (λ l. l ≡ take (length l) (drop (a.end - length l) text)) e is.part.there));
-    within = subst (λ n. n ≤ length text) (sym end) is.part.within;
-    same_text = ap (λ (p : Place). p.text.now) behind' ∙ is.part.same_text;
-  };
+  part = part_end text xs a b e end behind' is.part;
   at_end = ap (λ n. pieces 31 (drop n text)) end ∙ is.at_end;
   later = ap (λ (p : Place). pieces 31 (drop p.at text)) behind' ∙ is.later;
 }
@@ -62,6 +66,9 @@ module _ (text : Bytes) (at : ℕ) where
 
     pub place_bounds : (at ≤ place_behind 31 text at) × (place_behind 31 text at ≤ length text)
     place_bounds = bounds_by (cut_first 31 (drop at text)) refl
+
+    pub piece_within : at + length piece ≤ length text
+    piece_within = omega (arith, (front_by (cut_first 31 (drop at text)) refl).1, length-drop at text)
 
     -- the argument there
     pub argument_there : (a : Argument) → a.bytes.now ≡ piece → a.end ≡ at + length a.bytes.now → a.behind.at ≡ place_behind 31 text at → a.behind.text.now ≡ text → ArgumentAt text a (args_behind text at)

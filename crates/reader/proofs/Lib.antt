@@ -1,7 +1,10 @@
 mod Arguing
+mod ArgumentEdges
 mod Clipping
 mod Comings
 mod Leaving
 mod Shaped
 mod Taking
+mod TurnEdges
 mod Turning
+mod WordEdges

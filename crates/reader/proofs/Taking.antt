@@ -2,13 +2,16 @@
 use Rattle.std.proofs.Common.{◌≡◌, ℕ, ◌+◌, ◌-◌, ◌<◌, ◌≤◌, List, [], ◌∷◌, length, take, drop, Some, None, sym, refl, ap, ◌∙◌, arith, length-drop}
 use Rattle.std.proofs.lemmas.List.{drop-drop, drop-take}
 use Rattle.construct.specs.Made.{first_made}
-use Rattle.flags.specs.Meaning.{Bytes, Meaning}
+use Rattle.flags.specs.Meaning.{Bytes, Meaning, meaning}
+use Rattle.flags.specs.declared.flag.Flag.{Flag}
 use Rattle.flags.specs.declared.kinds.Code.{Code}
 use Rattle.text.specs.Arguments.{pieces}
 use Rattle.tables.specs.Tables.{Options}
 use Rattle.reading.specs.Reading.{free}
 use Rattle.reading.specs.Left.{Left, First, between, in_list, behind, rest_left, first_made_of, first_taken, first, first_from}
-use Rattle.reader.specs.Turns.{PartAt, ArgumentAt, first_made_at}
+use Rattle.reader.specs.Turns.{PartAt, ArgumentAt, first_made_at, TellsMade}
+use Rattle.reader.specs.declared.cursor.State.TheVariants.{List as InList}
+use Rattle.reader.specs.declared.turns.Turn.TheVariants.{Gives}
 use Rattle.reader.specs.declared.place.Argument.{Argument}
 use Rattle.reader.proofs.Leaving.{first_behind}
 
@@ -38,7 +41,7 @@ module _ (o : Options) (c : Code) (text : Bytes) (a : Argument) where
         ∙ drop-take n left (drop (a.end - length bytes) text)
         ∙ ap (take left) (drop-drop n (a.end - length bytes) text ∙ ap (λ k. drop k text) from)
 
-    pub rest_made : first_made_at o c text a ≡ Some (m, in_list c (take left (drop (a.end - left) text)) (pieces 31 (drop (a.end - left + left) text)))
+    rest_made : first_made_at o c text a ≡ Some (m, in_list c (take left (drop (a.end - left) text)) (pieces 31 (drop (a.end - left + left) text)))
     rest_made =
         let on : Left = between (pieces 31 (drop a.behind.at text)) in
         let long : length bytes ≤ a.end = a.long in
@@ -61,3 +64,6 @@ module _ (o : Options) (c : Code) (text : Bytes) (a : Argument) where
       ap (λ l. first o (in_list c l (pieces 31 (drop (at + n) text)))) (sym is)
       ∙ ap (λ l. first o (in_list c bytes (pieces 31 l))) (sym ends)
       ∙ ap (λ p. first_made_of c bytes (between (pieces 31 (drop p text))) (λ rest. in_list c rest (pieces 31 (drop a.end text))) (first o (between (pieces 31 (drop p text))))) (sym last)
+
+pub rest_tells : (c : Code) (a : Argument) (flag : Flag) (n : ℕ) → Some (meaning flag, n) ≡ first_made c a.bytes.now → n < length a.bytes.now → TellsMade c a (Gives flag (record { at = a.end - (length a.bytes.now - n); state = InList c (length a.bytes.now - n) }))
+rest_tells c a flag n e some = record { told = λ o text is w less. (rest_made o c text a is (meaning flag) n e some, omega (arith, is.within)) }

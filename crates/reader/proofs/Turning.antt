@@ -53,6 +53,9 @@ module _ (args : List Bytes) (later : State → First) (bs : Bytes) where
   pub letter_takes : (c : Code) (k : Option Code) → None ≡ (about c).flag → Some c ≡ k → first_letter args later k bs ≡ first_rest args later c bs
   letter_takes c k takes e = rw (← e, ← takes, first_letter)
 
+  pub letter_unknown : (k : Option Code) → None ≡ k → first_letter args later k bs ≡ later free
+  letter_unknown k e = rw (← e, first_letter)
+
 -- in a state that is known
 pub in_state : (o : Options) (text : Bytes) (r : Turn) (at : ℕ) (t s : At) → t ≡ s → Tells o text (weight_in s (length text - at)) (first o (left_in s text at)) r → Tells o text (weight_in t (length text - at)) (first o (left_in t text at)) r
 in_state o text r at t s e = subst (λ x. Tells o text (weight_in x (length text - at)) (first o (left_in x text at)) r) (sym e)

@@ -1,11 +1,12 @@
 -- What a cursor leaves of a text. A place past the text is its end. Assumes nothing.
-use Rattle.std.specs.Prelude.{◌≡◌, ℕ, ◌+◌, Bool, cond, List, [], ◌∷◌, ◌++◌, length, take, drop, Some, None, Ok, Err, Option, Result, nat_le}
+use Rattle.std.specs.Prelude.{◌≡◌, ℕ, ◌+◌, ◌≤◌, Bool, cond, List, [], ◌∷◌, ◌++◌, length, take, drop, Some, None, Ok, Err, Option, Result, nat_le}
 use Rattle.std.specs.Option.{option_to_list}
 use Rattle.text.specs.declared.refusals.Refusal.{Refusal}
 use Rattle.text.specs.declared.refusals.Refusal.TheVariants.{TextTooLong}
 use Rattle.flags.specs.Meaning.{Bytes, Meaning}
 use Rattle.text.specs.Arguments.{separator, longest_text, pieces, piece_at, arguments}
 use Rattle.text.specs.Cuts.{cut_first}
+use Rattle.text.specs.Edges.{Edge}
 use Rattle.tables.specs.Tables.{Options}
 use Rattle.reading.specs.Reading.{reading}
 use Rattle.reading.specs.Left.{Left, between, in_cluster, in_list, coming}
@@ -49,3 +50,24 @@ at_end c text = nat_le (length text) c.at
 -- a flag came first, or none came, and what is left behind it is to come
 abbrev pub Comes : Options → Left → Option Meaning → Left → Type 0
 Comes o before answer after = coming o before ≡ option_to_list answer ++ coming o after
+
+-- a place in a text, at an edge of a character
+pub record AtEdge (text : Bytes) (at : ℕ) : Type 0 where
+  pub within : at ≤ length text
+  pub edge : Edge text at
+
+-- in a list, its end is an edge too
+abbrev pub EndAtEdge : State → Bytes → ℕ → Type 0
+EndAtEdge Between text at = Unit {0}
+EndAtEdge Cluster text at = Unit {0}
+EndAtEdge (InList code length) text at = AtEdge text (at + length)
+EndAtEdge Ended text at = Unit {0}
+
+-- a reader's places in a text are edges of characters
+pub record OnEdges (c : Cursor) (text : Bytes) : Type 0 where
+  pub here : AtEdge text c.at
+  pub list_end : EndAtEdge c.state text c.at
+
+-- a reader on edges is on edges later
+pub record StaysOnEdges (text : Bytes) (before after : Cursor) : Type 0 where
+  pub kept : OnEdges before text → OnEdges after text

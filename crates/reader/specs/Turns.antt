@@ -6,7 +6,7 @@ use Rattle.text.specs.Arguments.{separator, pieces, piece_at}
 use Rattle.tables.specs.Tables.{Options}
 use Rattle.reading.specs.Left.{Left, First, between, in_list, behind, first_made_of, first_taken, first_from, first_rest, first_letter, first}
 use Rattle.reading.specs.Reading.{free}
-use Rattle.reader.specs.Cursors.{args_behind, cursor_between, left_in, left_of}
+use Rattle.reader.specs.Cursors.{args_behind, cursor_between, left_in, left_of, AtEdge, OnEdges}
 use Rattle.reader.specs.declared.cursor.Cursor.{Cursor}
 use Rattle.reader.specs.declared.cursor.State.{State}
 use Rattle.reader.specs.declared.cursor.State.TheVariants.{Between, Cluster, List as InList, Ended}
@@ -63,6 +63,10 @@ first_made_at o c text a =
     let on : Left = between (pieces separator (drop a.behind.at text)) in
     first_made_of c a.bytes.now on (λ rest. in_list c rest (pieces separator (drop a.end text))) (first o on)
 
+-- a turn over an argument that an option takes
+pub record TellsMade (c : Code) (a : Argument) (turn : Turn) : Type 0 where
+  pub told : (o : Options) (text : Bytes) → PartAt text a → TellsFrom o text a.behind.at (first_made_at o c text a) turn
+
 -- the first flag at a place, where an option takes the argument there
 abbrev pub first_taken_at : Options → Code → Bytes → ℕ → First
 first_taken_at o c text at = first_taken c (piece_at separator text at) (args_behind text at) (first_from o free (args_behind text at))
@@ -84,3 +88,31 @@ pub record ByteAt (text : Bytes) (at : ℕ) (x : ℕ) : Type 0 where
 abbrev pub ToldByte : Bytes → ℕ → Option ℕ → Type 0
 ToldByte text at (Some x) = ByteAt text at x
 ToldByte text at None = (drop at text ≡ []) × (length text ≤ at)
+
+-- a turn leaves a cursor on edges of characters
+abbrev pub TurnOnEdges : Bytes → Turn → Type 0
+TurnOnEdges text (Gives flag c) = OnEdges c text
+TurnOnEdges text (Passes c) = OnEdges c text
+TurnOnEdges text Ends = Unit {0}
+
+-- an argument is cut from a text at edges, and reading goes on at one
+pub record ArgumentOnEdges (text : Bytes) (a : Argument) : Type 0 where
+  pub first : AtEdge text (a.end - length a.bytes.now)
+  pub last : AtEdge text a.end
+  pub behind : AtEdge text a.behind.at
+
+-- The same where something begins at an edge: an argument at a place, a turn at one, a turn over an argument, a turn of a cursor.
+pub record ArgumentFrom (here : Place) (a : Argument) : Type 0 where
+  pub kept : AtEdge here.text.now here.at → ArgumentOnEdges here.text.now a
+
+pub record EdgesFrom (here : Place) (turn : Turn) : Type 0 where
+  pub kept : AtEdge here.text.now here.at → TurnOnEdges here.text.now turn
+
+pub record EdgesOf (a : Argument) (turn : Turn) : Type 0 where
+  pub kept : (text : Bytes) → PartAt text a → ArgumentOnEdges text a → TurnOnEdges text turn
+
+pub record EdgesBehind (text : Bytes) (c : Cursor) (turn : Turn) : Type 0 where
+  pub kept : OnEdges c text → TurnOnEdges text turn
+
+abbrev pub EdgesIn : State → Place → Turn → Type 0
+EdgesIn state here turn = EdgesBehind here.text.now (record { at = here.at; state = state }) turn

@@ -1,5 +1,5 @@
 // Places in a text, and what stands there.
-ghost use Rattle.std.specs.Prelude.{◌≡◌, ◌+◌, ◌<◌, ◌≤◌, length, take, drop};
+ghost use Rattle.std.specs.Prelude.{◌≡◌, ◌+◌, ◌<◌, ◌≤◌, length, take, drop, slice_index};
 
 use text::{SEPARATOR, piece_at};
 
@@ -22,8 +22,8 @@ pub(crate) struct Argument<'a> {
 
 impl<'a> Place<'a> {
     ghost use Rattle.text.specs.Arguments.{separator, piece_at, place_behind};
-    ghost use Rattle.reader.specs.Cursors.{args_behind};
-    ghost use Rattle.reader.specs.Turns.{ArgumentAt, PartAt, ToldByte};
+    ghost use Rattle.reader.specs.Cursors.{args_behind, AtEdge};
+    ghost use Rattle.reader.specs.Turns.{ArgumentAt, ArgumentFrom, PartAt, ToldByte};
 
     // The byte there, if the text goes on.
     pub(crate) fn byte(self) -> Option<u8>
@@ -32,11 +32,13 @@ impl<'a> Place<'a> {
         self.text.get(self.at).copied()
     }
 
-    // The place behind the byte there.
+    // The place behind the byte there, which is ASCII: so that place is an edge.
     pub(crate) fn next(self) -> Place<'a>
-        requires { self.at < length self.text.now }
+        requires inside { self.at < length self.text.now }
+        requires ascii { slice_index self.text.now self.at < 128 }
         ensures text { result.text.now ≡ self.entry.text.now }
         ensures at { result.at ≡ self.entry.at + 1 }
+        ensures edge { AtEdge self.entry.text.now result.at }
     {
         Place {
             text: self.text,
@@ -49,6 +51,7 @@ impl<'a> Place<'a> {
         ensures piece { result.bytes.now ≡ piece_at separator self.entry.text.now self.entry.at }
         ensures behind { result.behind.at ≡ place_behind separator self.entry.text.now self.entry.at }
         ensures there { ArgumentAt self.entry.text.now result (args_behind self.entry.text.now self.entry.at) }
+        ensures edges { ArgumentFrom self.entry result }
     {
         let (bytes, behind) = piece_at(self.text, SEPARATOR, self.at);
         Argument {
@@ -68,6 +71,7 @@ impl<'a> Place<'a> {
         ensures behind { result.behind.at ≡ result.end }
         ensures later { self.entry.at ≤ result.end }
         ensures there { PartAt self.entry.text.now result }
+        ensures edges { AtEdge self.entry.text.now (self.entry.at + most) → ArgumentFrom self.entry result }
     {
         let rest = &self.text[self.at..];
         let bytes = &rest[..most.min(rest.len())];

@@ -30,7 +30,7 @@ fn told(text: &[u8]) -> [Told; 4] {
 
 #[test]
 fn reads(rt: HostRuntime) {
-    let cases: [(&[u8], [Told; 4]); 16] = [
+    let cases: [(&[u8], [Told; 4]); 20] = [
         (b"", [none(), none(), none(), none()]),
         (b"-hV", [flag(0), last(21), none(), none()]),
         (b"-h\x1f", [flag(0), none(), none(), none()]),
@@ -48,6 +48,16 @@ fn reads(rt: HostRuntime) {
         (b"--emit=link\x1f-gO", [flag(7), flag(20), last(20), none()]),
         (b"-L\x1fx=y\x1f-h", [last(0), none(), none(), none()]),
         (b"-hx-V\x1f-V", [flag(0), last(21), none(), none()]),
+        (b"-h\xc3\xa9-V\x1f-V", [flag(0), last(21), none(), none()]),
+        (b"-\xc3\xa9h\x1f-h\xa9V", [flag(0), none(), none(), none()]),
+        (
+            b"-h\xc3\x1f-h\xf0\x9f\x1f-V",
+            [flag(0), flag(0), last(21), none()],
+        ),
+        (
+            b"--emit=\xc3\xa9,link,asm\x1f-h",
+            [flag(7), flag(7), last(0), none()],
+        ),
         (
             b"x\x1f\x1f-\x1f\xff\x1f-\xff\x1f-Cb=c=d",
             [last(20), none(), none(), none()],
