@@ -1,7 +1,8 @@
 use super::*;
 use tables::Rustc;
+use text::Refusal;
 
-// The number of the kind of a flag, if there was one, and whether the text is read to its end then.
+// The number of the kind of a flag, as the rules list the kinds, if there was one, and whether the text is read to its end then.
 type Told = (Option<u8>, bool);
 
 fn flag(kind: u8) -> Told {
@@ -17,15 +18,14 @@ fn none() -> Told {
 }
 
 // What a text's first four reads tell.
-fn told(text: &[u8]) -> [Told; 4] {
+fn told(text: &[u8]) -> Result<[Told; 4], Refusal> {
+    let mut cursor = Cursor::open(text)?;
     let mut out = [(None, false); 4];
-    if let Ok(mut cursor) = Cursor::open(text) {
-        for place in &mut out {
-            let kind = cursor.next(text, &Rustc).map(|flag| flag.kind().number());
-            *place = (kind, cursor.ended(text));
-        }
+    for place in &mut out {
+        let kind = cursor.next(text, &Rustc).map(|flag| flag.kind().number());
+        *place = (kind, cursor.ended(text));
     }
-    out
+    Ok(out)
 }
 
 #[test]
@@ -68,7 +68,7 @@ fn reads(rt: HostRuntime) {
         ),
     ];
     for (text, expected) in cases {
-        assert!(rt; told(text) == expected);
+        assert!(rt; told(text) == Ok(expected));
     }
 }
 

@@ -1,5 +1,6 @@
 // One turn of a reader: a flag, something passed over, or the end.
 // The table stands beside the place: a struct of both would ask `T: Table` of the turns that use no table.
+// The clause `edges` ties a turn to the place that it is of, so no type can carry it.
 ghost use Rattle.std.specs.Prelude.{◌≡◌, ℕ, ◌+◌, ◌-◌, ◌≤◌, List, length, drop};
 ghost use Rattle.flags.specs.Meaning.{Bytes};
 ghost use Rattle.text.specs.Arguments.{separator, pieces, place_behind};
