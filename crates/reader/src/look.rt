@@ -3,7 +3,7 @@ ghost use Rattle.std.specs.Prelude.{◌≡◌};
 ghost use Rattle.std.specs.Option.{option_map};
 ghost use Rattle.flags.specs.Meaning.{meaning};
 ghost use Rattle.reading.specs.Left.{first, after};
-ghost use Rattle.reader.specs.Cursors.{left_of, Comes};
+ghost use Rattle.reader.specs.Cursors.{left_of, Comes, StaysOnEdges};
 
 use super::cursor::Cursor;
 use flags::Flag;
@@ -52,6 +52,7 @@ impl Look<'_> {
         ensures answer { option_map meaning result ≡ option_map (λ p. p.0) (first (T.Table.means table.now) (left_of self.old.cursor.now text.now)) }
         ensures left { left_of self.new.cursor.now text.now ≡ after (first (T.Table.means table.now) (left_of self.old.cursor.now text.now)) }
         ensures comes { Comes (T.Table.means table.now) (left_of self.old.cursor.now text.now) (option_map meaning result) (left_of self.new.cursor.now text.now) }
+        ensures edges { StaysOnEdges text.now self.old.cursor.now self.new.cursor.now }
         ensures kept { self.new.kept ≡ self.old.kept }
         ensures lends { self.new.cursor.ghost_name ≡ self.old.cursor.ghost_name }
     {
