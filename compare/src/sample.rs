@@ -23,7 +23,7 @@ const STRIDE: usize = 7;
 
 /// The same for texts, of which one in `TEXT_STRIDE` is taken.
 const MOST_TEXT_SYMBOLS: usize = 3;
-const TEXT_STRIDE: usize = 5;
+const TEXT_STRIDE: usize = 11;
 
 /// Texts are longer than that only where the original's calls are compared and not stored.
 const LONGEST_TEXT: usize = 120;

@@ -1,5 +1,5 @@
 -- The lines of calls, written one behind the other. Assumes nothing.
-use Rattle.std.proofs.Common.{◌≡◌, ℕ, ◌≤◌, Bool, List, [], ◌∷◌, ◌++◌, length, Some, None, sym, subst, append_assoc}
+use Rattle.std.proofs.Common.{◌≡◌, ◌≤◌, Bool, List, [], ◌∷◌, ◌++◌, length, Some, None, sym, subst, append_assoc}
 use Rattle.flags.specs.Meaning.{Bytes, Meaning}
 use Rattle.reading.proofs.Counting.{at_most}
 use Rattle.tables.specs.Rustc.{rustc}
