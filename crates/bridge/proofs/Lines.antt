@@ -21,7 +21,7 @@ module _ (all before after : List Meaning) (out new : Bytes) (a : Awaits all bef
   awaits_rest ended flag e line = record {
     rest = λ lines told.
         let Along : List Meaning → Type 0 = λ flags. Told flags (call_line ended (Some flag) ++ lines) in
-        rw (line, append_assoc) (a.rest _ (subst Along (sym e) (gives ended flag after lines told)));
+        rw (line, append_assoc out (call_line ended (Some flag)) lines) (a.rest _ (subst Along (sym e) (gives ended flag after lines told)));
   }
 
 -- none is to come, and the lines of three calls are written
@@ -29,4 +29,4 @@ module _ (all later : List Meaning) (out one_more two_more new : Bytes) (a : Awa
   pub awaits_none : (one two three : Bool) → later ≡ [] → one_more ≡ out ++ call_line one None → two_more ≡ one_more ++ call_line two None → new ≡ two_more ++ call_line three None → Told all new
   awaits_none one two three e first second third =
       let Along : List Meaning → Type 0 = λ flags. Told flags (call_line one None ++ (call_line two None ++ call_line three None)) in
-      rw (third, second, first, append_assoc, append_assoc) (a.rest _ (subst Along (sym e) (at_the_end one two three)))
+      rw (third, second, first, append_assoc (out ++ call_line one None) (call_line two None) (call_line three None), append_assoc out (call_line one None) (call_line two None ++ call_line three None)) (a.rest _ (subst Along (sym e) (at_the_end one two three)))
