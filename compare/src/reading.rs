@@ -92,7 +92,9 @@ pub fn report(calls: &[Call], line: impl Fn(&Flag) -> String) -> Report {
 pub fn difference(text: &[u8], calls: &[Call]) -> Option<Known<Report>> {
     if text.len() > texts::LONGEST {
         return Some(Known {
-            reasons: BTreeSet::from(["a text over 65,535 bytes is refused with 6 here, and read there"]),
+            reasons: BTreeSet::from([
+                "a text over 65,535 bytes is refused with 6 here, and read there",
+            ]),
             ours: Report("refused 6\n".to_owned()),
             theirs: report(calls, theirs::line),
         });

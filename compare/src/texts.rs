@@ -157,8 +157,22 @@ fn of_arguments(random: &mut Random) -> Vec<u8> {
 /// Adds an option in one of its spellings, with an argument or without one, or something that is no option.
 fn add_argument(random: &mut Random, text: &mut Vec<u8>) {
     match random.below(16) {
-        0 => text.extend_from_slice(*random.pick(&[b"".as_slice(), b"-", b"x", b"\xff", b"--\x1f", b"-\xff"])),
-        1 => text.extend_from_slice(*random.pick(&[b"--unknown".as_slice(), b"--emi", b"--=", b"--help=", b"-x", b"-ghx"])),
+        0 => text.extend_from_slice(*random.pick(&[
+            b"".as_slice(),
+            b"-",
+            b"x",
+            b"\xff",
+            b"--\x1f",
+            b"-\xff",
+        ])),
+        1 => text.extend_from_slice(*random.pick(&[
+            b"--unknown".as_slice(),
+            b"--emi",
+            b"--=",
+            b"--help=",
+            b"-x",
+            b"-ghx",
+        ])),
         2 => add_bare_letters(random, text),
         3..=6 => {
             add_bare_letters(random, text);
@@ -174,7 +188,11 @@ fn add_argument(random: &mut Random, text: &mut Vec<u8>) {
         _ => {
             let (option, argument) = arguments::any(random);
             text.extend_from_slice(option.spelling.as_bytes());
-            text.push(if random.below(2) == 0 { SEPARATOR } else { b'=' });
+            text.push(if random.below(2) == 0 {
+                SEPARATOR
+            } else {
+                b'='
+            });
             text.extend_from_slice(&argument);
         }
     }

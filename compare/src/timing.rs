@@ -39,7 +39,10 @@ fn inputs() -> Vec<(&'static str, Vec<u8>)> {
         ("what builds have", texts::typical()),
         ("the same, as long as it may be", texts::typical_long()),
         ("`-`, then `g` 65,000 times", filled("-", "g", 65_000)),
-        ("`--emit=`, then `,` 32,000 times", filled("--emit=", ",", 32_000)),
+        (
+            "`--emit=`, then `,` 32,000 times",
+            filled("--emit=", ",", 32_000),
+        ),
         ("separators", filled("", "\x1f", texts::LONGEST)),
         ("`--`, then `x` 65,000 times", filled("--", "x", 65_000)),
     ]
@@ -49,7 +52,9 @@ fn inputs() -> Vec<(&'static str, Vec<u8>)> {
 fn best_of_both(text: &[u8]) -> (f64, f64) {
     let mut best = (f64::INFINITY, f64::INFINITY);
     for _ in 0..ROUNDS {
-        best.0 = best.0.min(seconds(|| ours::count(black_box(text)).unwrap_or(0)));
+        best.0 = best
+            .0
+            .min(seconds(|| ours::count(black_box(text)).unwrap_or(0)));
         best.1 = best.1.min(seconds(|| theirs::count(black_box(text))));
     }
     best
