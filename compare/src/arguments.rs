@@ -30,16 +30,17 @@ pub fn short(option: &Opt, most: usize, each: &mut impl FnMut(&[u8])) {
     extend(&symbols, most, &mut Vec::new(), each);
 }
 
-fn extend(symbols: &[&[u8]], more: usize, argument: &mut Vec<u8>, each: &mut impl FnMut(&[u8])) {
-    each(argument);
+/// The text, and every longer one with at most `more` symbols behind it.
+pub fn extend(symbols: &[&[u8]], more: usize, text: &mut Vec<u8>, each: &mut impl FnMut(&[u8])) {
+    each(text);
     if more == 0 {
         return;
     }
-    let length = argument.len();
+    let length = text.len();
     for symbol in symbols {
-        argument.extend_from_slice(symbol);
-        extend(symbols, more - 1, argument, each);
-        argument.truncate(length);
+        text.extend_from_slice(symbol);
+        extend(symbols, more - 1, text, each);
+        text.truncate(length);
     }
 }
 
@@ -84,7 +85,7 @@ fn spliced(random: &mut Random, a: &[u8], b: &[u8]) -> Vec<u8> {
 }
 
 /// The text with one to three bytes replaced, dropped or doubled, or with its end cut off.
-fn damaged(random: &mut Random, text: &[u8]) -> Vec<u8> {
+pub fn damaged(random: &mut Random, text: &[u8]) -> Vec<u8> {
     let mut copy = text.to_vec();
     for _ in 0..=random.below(3) {
         if copy.is_empty() {

@@ -16,6 +16,14 @@ impl Budget {
         Budget::Rounds(USUAL_ROUNDS)
     }
 
+    /// So many times the time of a run, where that is set.
+    pub fn times(self, share: u32) -> Budget {
+        match self {
+            Budget::Rounds(_) => self,
+            Budget::Time(time) => Budget::Time(time * share),
+        }
+    }
+
     /// Counts rounds from 0 until the budget is used up. The time starts with this call.
     pub fn rounds(self) -> impl Iterator<Item = u64> {
         let start = Instant::now();

@@ -89,9 +89,10 @@ impl fmt::Debug for Input<'_> {
 }
 
 fn hold(tally: &mut Tally, counts: &mut Counts, option: &Opt, argument: &[u8]) {
-    let theirs = theirs::all(option, argument);
-    counts.add(theirs.len());
+    let flags = theirs::all(option, argument);
+    counts.add(flags.len());
     let ours = ours::all(option.number, option.is_list(), argument);
-    let known = known::difference(option, argument);
+    let theirs = flags.iter().map(theirs::line).collect();
+    let known = known::difference(flags.iter(), |line| flags.iter().map(line).collect());
     tally.compare(&Input { option, argument }, &ours, &theirs, known.as_ref());
 }

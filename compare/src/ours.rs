@@ -16,6 +16,22 @@ unsafe extern "C" {
         line: *mut u8,
         line_length: usize,
     ) -> Answer;
+
+    fn hakechrome_calls(
+        text: *const u8,
+        text_length: usize,
+        report: *mut u8,
+        report_length: usize,
+    ) -> Number;
+
+    fn hakechrome_count(text: *const u8, length: usize) -> Number;
+}
+
+/// A number, if there is one: see `crates/bridge/src/calling.rt`.
+#[repr(C)]
+struct Number {
+    given: bool,
+    number: usize,
 }
 
 /// What became of a call: see `crates/bridge/src/making.rt`.
@@ -73,6 +89,45 @@ pub fn all(number: u8, is_list: bool, argument: &[u8]) -> Vec<String> {
         rest = &rest[place..];
     }
     lines
+}
+
+/// How many flags the text gives; none where it is refused.
+pub fn count(text: &[u8]) -> Option<usize> {
+    // SAFETY: pointer and length are those of a slice that lives through the call, which only reads it.
+    let answer = unsafe { hakechrome_count(text.as_ptr(), text.len()) };
+    answer.given.then_some(answer.number)
+}
+
+/// Room for the report of a text.
+pub struct Reports {
+    buffer: Vec<u8>,
+}
+
+/// Enough for the report of any text that is compared, where a flag of one byte has a line of about thirty.
+const LONGEST_REPORT: usize = 1 << 22;
+
+impl Reports {
+    pub fn new() -> Reports {
+        Reports {
+            buffer: vec![0; LONGEST_REPORT],
+        }
+    }
+
+    /// What our reader tells of the text, a line for each call.
+    pub fn calls(&mut self, text: &[u8]) -> &str {
+        // SAFETY: pointers and lengths are those of slices that live through the call, which reads the first and writes
+        // the second.
+        let answer = unsafe {
+            hakechrome_calls(
+                text.as_ptr(),
+                text.len(),
+                self.buffer.as_mut_ptr(),
+                self.buffer.len(),
+            )
+        };
+        assert!(answer.given, "no room for the report of {text:02X?}");
+        str::from_utf8(&self.buffer[..answer.number]).expect("a report is text")
+    }
 }
 
 /// The places of a byte and the cuts there.

@@ -6,9 +6,9 @@ use std::fmt::Debug;
 /// How many unexplained differences of a suite are printed, each once; all are counted.
 const MOST_SHOWN: usize = 20;
 
-/// A difference that is known: its name, and what each side answers there.
+/// A difference that is known: the names of its rules, and what each side answers there.
 pub struct Known<A> {
-    pub reason: &'static str,
+    pub reasons: BTreeSet<&'static str>,
     pub ours: A,
     pub theirs: A,
 }
@@ -16,7 +16,8 @@ pub struct Known<A> {
 pub struct Tally {
     name: &'static str,
     compared: u64,
-    known: BTreeMap<&'static str, u64>,
+    known: u64,
+    reasons: BTreeMap<&'static str, u64>,
     unexplained: u64,
     shown: BTreeSet<String>,
 }
@@ -26,7 +27,8 @@ impl Tally {
         Tally {
             name,
             compared: 0,
-            known: BTreeMap::new(),
+            known: 0,
+            reasons: BTreeMap::new(),
             unexplained: 0,
             shown: BTreeSet::new(),
         }
@@ -42,7 +44,10 @@ impl Tally {
         self.compared += 1;
         match known {
             Some(known) if known.ours == *ours && known.theirs == *theirs => {
-                *self.known.entry(known.reason).or_insert(0) += 1;
+                self.known += 1;
+                for reason in &known.reasons {
+                    *self.reasons.entry(reason).or_insert(0) += 1;
+                }
             }
             None if ours == theirs => (),
             _ => self.add_unexplained(input, ours, theirs),
@@ -69,17 +74,15 @@ impl Tally {
         self.unexplained
     }
 
-    /// Prints a line for each reason of known differences, and then the totals.
+    /// Prints a line for each rule of known differences, and then the totals. An input may fall under two rules.
     pub fn report(&self) {
         let name = self.name;
-        for (reason, count) in &self.known {
+        for (reason, count) in &self.reasons {
             println!("{name}: known: {reason}: {count}");
         }
         println!(
             "{name}: compared {}, known differences {}, unexplained {}",
-            self.compared,
-            self.known.values().sum::<u64>(),
-            self.unexplained
+            self.compared, self.known, self.unexplained
         );
     }
 }

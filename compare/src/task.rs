@@ -6,6 +6,7 @@ use std::time::Duration;
 pub enum Task {
     Compare(Budget),
     WriteSample(String),
+    Time,
 }
 
 impl Task {
@@ -18,6 +19,7 @@ impl Task {
                 "--write-sample" => {
                     Task::WriteSample(words.next().ok_or("--write-sample lacks its folder")?)
                 }
+                "--time" => Task::Time,
                 _ => return Err(format!("unknown argument {word:?}")),
             };
         }

@@ -1,7 +1,7 @@
-//! What the original answers, in the lines that ours writes.
+//! What the original answers, and its flags in lines as ours are written.
 
 use crate::options::Opt;
-use rustflags::{CrateType, Flag, LinkModifier, LinkModifierPrefix};
+use rustflags::{Flag, LinkModifier, LinkModifierPrefix};
 use std::ffi::OsStr;
 use std::fmt::Display;
 use std::os::unix::ffi::OsStrExt;
@@ -9,19 +9,49 @@ use std::path::Path;
 
 const SEPARATOR: u8 = 0x1F;
 
-/// The lines of all the flags that the original gives of an argument, which holds no separator.
-pub fn all(option: &Opt, argument: &[u8]) -> Vec<String> {
+/// One call of the original's reader: the flag that it gave, and whether the text is read to its end then.
+pub struct Call {
+    pub flag: Option<Flag>,
+    pub ended: bool,
+}
+
+/// How often a reader is called after it gave no flag.
+const CALLS_BEHIND_THE_END: usize = 2;
+
+/// The calls of a reader of the text until it gives no flag, and some more.
+pub fn calls(text: &[u8]) -> Vec<Call> {
+    let mut reader = rustflags::from_encoded(OsStr::from_bytes(text));
+    let mut calls = Vec::new();
+    let mut behind = 0;
+    while behind <= CALLS_BEHIND_THE_END {
+        let flag = reader.next();
+        if flag.is_none() || behind > 0 {
+            behind += 1;
+        }
+        calls.push(Call {
+            flag,
+            ended: reader.has_ended(),
+        });
+    }
+    calls
+}
+
+/// How many flags the original gives of a text.
+pub fn count(text: &[u8]) -> usize {
+    rustflags::from_encoded(OsStr::from_bytes(text)).count()
+}
+
+/// All the flags that the original gives of an argument, which holds no separator.
+pub fn all(option: &Opt, argument: &[u8]) -> Vec<Flag> {
     let mut text = option.spelling.as_bytes().to_vec();
     if !option.is_bare() {
         text.push(SEPARATOR);
         text.extend_from_slice(argument);
     }
-    rustflags::from_encoded(OsStr::from_bytes(&text))
-        .map(|flag| line(&flag))
-        .collect()
+    rustflags::from_encoded(OsStr::from_bytes(&text)).collect()
 }
 
-fn line(flag: &Flag) -> String {
+pub fn line(flag: &Flag) -> String {
     match flag {
         Flag::Help => "Help".to_owned(),
         Flag::Cfg { name, value } => pair("Cfg", name, value.as_deref().map(str::as_bytes)),
@@ -39,8 +69,6 @@ fn line(flag: &Flag) -> String {
             quoted(name.as_bytes()),
             or_dash(rename.as_deref().map(str::as_bytes))
         ),
-        // the original writes this one in another spelling than it reads
-        Flag::CrateType(CrateType::Cdylib) => word("CrateType", "cdylib"),
         Flag::CrateType(name) => word("CrateType", name),
         Flag::CrateName(text) => one("CrateName", text.as_bytes()),
         Flag::Edition(year) => word("Edition", year),
@@ -78,7 +106,7 @@ pub fn remapped(from: &[u8], to: &[u8]) -> String {
     format!("RemapPathPrefix {} {}", quoted(from), quoted(to))
 }
 
-fn path_bytes(path: &Path) -> &[u8] {
+pub fn path_bytes(path: &Path) -> &[u8] {
     path.as_os_str().as_bytes()
 }
 

@@ -1,2 +1,4 @@
 pub mod Answered
+pub mod Calls
+pub mod Numbers
 pub mod Places

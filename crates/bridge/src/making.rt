@@ -44,18 +44,26 @@ pub fn first_of(number: u8, argument: &[u8]) -> Option<(Flag<'_>, usize)>
     make(Code::try_from(number).ok()?, argument)
 }
 
+// Puts bytes at the front of a buffer, and says how many they are; none where they find no room.
+pub(crate) fn put(bytes: &[u8], buffer: &mut [u8]) -> Option<usize>
+    ensures { MatchOption result (buffer.new ≡ buffer.old)
+        (λ n. (n ≡ length bytes.now) × (buffer.new ≡ bytes.now ++ drop n buffer.old)) }
+{
+    let length = bytes.len();
+    if length > buffer.len() {
+        return None;
+    }
+    buffer[..length].copy_from_slice(bytes);
+    Some(length)
+}
+
 // Puts the flag's line at the front of `line`, and says how long it is; none where it finds no room or no memory.
-fn put(heap: Global, flag: Flag<'_>, line: &mut [u8]) -> Option<usize>
+fn put_flag(heap: Global, flag: Flag<'_>, line: &mut [u8]) -> Option<usize>
     ensures { MatchOption result (line.new ≡ line.old)
         (λ n. (n ≡ length (shown (meaning flag.entry))) × (line.new ≡ shown (meaning flag.entry) ++ drop n line.old)) }
 {
     let text = Shown(flag).to_string(heap).ok()?;
-    let length = text.len();
-    if length > line.len() {
-        return None;
-    }
-    line[..length].copy_from_slice(text.as_bytes());
-    Some(length)
+    put(text.as_bytes(), line)
 }
 
 // The first flag that the option with this number gives of the argument: its line goes to the front of `line`.
@@ -65,7 +73,7 @@ pub fn make_line(heap: Global, number: u8, argument: &[u8], line: &mut [u8]) -> 
     let Some((flag, place)) = first_of(number, argument) else {
         return NO_FLAG;
     };
-    match put(heap, flag, line) {
+    match put_flag(heap, flag, line) {
         Some(length) => Answer {
             status: 1,
             length,

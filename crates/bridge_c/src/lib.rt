@@ -3,13 +3,15 @@
 // C can call only functions of these names and types; its contract says that it answers as the library does.
 #![tactic(auto)]
 
-ghost use Rattle.std.specs.Prelude.{◌≡◌};
+ghost use Rattle.std.specs.Prelude.{◌≡◌, Some, None, MatchResult};
 ghost use Rattle.utf8.specs.Utf8.{utf8};
 ghost use Rattle.text.specs.Cuts.{begins, ends, first_place, cut_first};
 ghost use Rattle.bridge.specs.Answered.{Answered, made_by};
+ghost use Rattle.bridge.specs.Calls.{counted};
+ghost use Rattle.bridge.specs.Numbers.{told, Written};
 ghost use Rattle.bridge.specs.Places.{found, lengths};
 
-use bridge::{Answer, Found, Lengths, make_line};
+use bridge::{Answer, Found, Lengths, Number, count, make_line, write_calls};
 use std::alloc::Global;
 use text::{ends_with, find, split_once, starts_with};
 use utf8::is_utf8;
@@ -33,6 +35,22 @@ pub extern "C" fn hakechrome_make(
     ensures { Answered (made_by number argument.now) result line.old line.new }
 {
     make_line(heap, number, argument, line)
+}
+
+// What a reader tells of the text, call by call, goes to the front of `report`: how long it is.
+#[unsafe(no_mangle)]
+pub extern "C" fn hakechrome_calls(heap: Global, text: &[u8], report: &mut [u8]) -> Number
+    ensures { Written text.now result report.old report.new }
+{
+    write_calls(heap, text, report)
+}
+
+// How many flags the text gives, where it is not too long.
+#[unsafe(no_mangle)]
+pub extern "C" fn hakechrome_count(text: &[u8]) -> Number
+    ensures { MatchResult (counted text.now) (λ n. result ≡ told (Some n)) (λ refusal. result ≡ told None) }
+{
+    count(text).ok().into()
 }
 
 // The place of the first `byte`.

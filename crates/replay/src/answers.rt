@@ -1,53 +1,14 @@
 // A line of the sample is the number of an option's code, a space, and an argument in hexadecimal digits. Its answer is
 // one line too: the flags that the option gives of the argument.
 ghost use Rattle.std.specs.Prelude.{◌≡◌, ◌<◌, ◌++◌, length, Some, None, string_bytes, IfSome, IfOk, OnOk};
-ghost use Rattle.std.specs.Char.{digit_char};
 ghost use Rattle.bridge.specs.Answered.{made_by, all_by};
 ghost use Rattle.show.specs.Shown.{shown};
 
 use bridge::first_of;
 use flags::{Code, Takes};
+use hexadecimal::{Fault, bytes_of};
 use show::Shown;
 use std::alloc::{AllocError, Global};
-
-// Why a line could not be read.
-#[derive(Clone, Copy)]
-enum Fault {
-    NoMemory,
-    NotOfTheForm,
-}
-
-impl From<AllocError> for Fault {
-    fn from(_: AllocError) -> Fault {
-        Fault::NoMemory
-    }
-}
-
-// The inverse of `digit_char`, as its clause says. `to_digit` isn't: it takes capitals too, which the sample hasn't.
-fn value_of(digit: u8) -> Option<u8>
-    ensures value { elim result [ Some n ↦ digit ≡ digit_char n | None ↦ Unit {0} ] }
-    ensures bound { elim result [ Some n ↦ n < 16 | None ↦ Unit {0} ] }
-{
-    match digit {
-        b'0'..=b'9' => Some(digit - b'0'),
-        b'a'..=b'f' => Some(digit - b'a' + 10),
-        _ => None,
-    }
-}
-
-fn byte_of(digits: &[u8]) -> Option<u8> {
-    let &[high, low] = digits else {
-        return None;
-    };
-    Some(value_of(high)? * 16 + value_of(low)?)
-}
-
-fn bytes_of(heap: Global, digits: &[u8]) -> Result<Vec<u8>, Fault> {
-    digits
-        .chunks(2)
-        .map(|pair| byte_of(pair).ok_or(Fault::NotOfTheForm))
-        .try_collect(heap)
-}
 
 // The number and the argument of a line.
 fn read_line(heap: Global, line: &str) -> Result<(u8, Vec<u8>), Fault> {

@@ -1,0 +1,53 @@
+// Digits read back as bytes.
+ghost use Rattle.std.specs.Prelude.{◌≡◌, ◌<◌, ◌/◌, ◌%◌, IfSome, IfOk};
+ghost use Rattle.std.specs.Char.{digit_char};
+ghost use Rattle.hexadecimal.specs.Digits.{digits_of};
+
+use std::alloc::Global;
+
+// Why digits could not be read.
+#[derive(Clone, Copy)]
+pub enum Fault {
+    NoMemory,
+    NotOfTheForm,
+}
+
+// The inverse of `digit_char`, as its clause says. `to_digit` isn't: it takes capitals too.
+fn value_of(digit: u8) -> Option<u8>
+    ensures value { IfSome result (λ n. digit ≡ digit_char n) }
+    ensures bound { IfSome result (λ n. n < 16) }
+{
+    match digit {
+        b'0'..=b'9' => Some(digit - b'0'),
+        b'a'..=b'f' => Some(digit - b'a' + 10),
+        _ => None,
+    }
+}
+
+fn byte_of(high: u8, low: u8) -> Option<u8>
+    ensures high { IfSome result (λ b. high ≡ digit_char (b / 16)) }
+    ensures low { IfSome result (λ b. low ≡ digit_char (b % 16)) }
+{
+    Some(value_of(high)? * 16 + value_of(low)?)
+}
+
+// The bytes that have these digits.
+#[tactic(auto, using(crate::proofs::Behind::digits_read))]
+pub fn bytes_of(heap: Global, digits: &[u8]) -> Result<Vec<u8>, Fault>
+    ensures { IfOk result (λ bytes. digits.now ≡ digits_of bytes.items) }
+{
+    let mut bytes = Vec::new(heap);
+    let mut rest = digits;
+    while let [high, low, behind @ ..] = rest {
+        let Some(byte) = byte_of(*high, *low) else {
+            return Err(Fault::NotOfTheForm);
+        };
+        bytes.push(byte).or(Err(Fault::NoMemory))?;
+        rest = behind;
+    }
+    if rest.is_empty() {
+        Ok(bytes)
+    } else {
+        Err(Fault::NotOfTheForm)
+    }
+}
