@@ -3,13 +3,19 @@ ghost use Rattle.std.specs.Prelude.{◌≡◌, ◌<◌, ◌/◌, ◌%◌, IfSome
 ghost use Rattle.std.specs.Char.{digit_char};
 ghost use Rattle.hexadecimal.specs.Digits.{digits_of};
 
-use std::alloc::Global;
+use std::alloc::{AllocError, Global};
 
 // Why digits could not be read.
 #[derive(Clone, Copy)]
 pub enum Fault {
-    NoMemory,
+    NoMemory(AllocError),
     NotOfTheForm,
+}
+
+impl From<AllocError> for Fault {
+    fn from(error: AllocError) -> Fault {
+        Fault::NoMemory(error)
+    }
 }
 
 // The inverse of `digit_char`, as its clause says. `to_digit` isn't: it takes capitals too.
@@ -42,7 +48,7 @@ pub fn bytes_of(heap: Global, digits: &[u8]) -> Result<Vec<u8>, Fault>
         let Some(byte) = byte_of(*high, *low) else {
             return Err(Fault::NotOfTheForm);
         };
-        bytes.push(byte).or(Err(Fault::NoMemory))?;
+        bytes.push(byte).map_err(AllocError::from)?;
         rest = behind;
     }
     if rest.is_empty() {

@@ -18,7 +18,8 @@ fn read_line(heap: Global, line: &str) -> Result<(u8, Vec<u8>), Fault> {
 }
 
 // Adds the first flag that an option gives of an argument, behind a separator, and gives the bytes behind it where the
-// option takes a list.
+// option takes a list. The number goes on as a number: the bridge's calls are by it. These are functions and no `Display`, since what is left
+// is handed on.
 fn push_first<'a>(
     out: &mut String,
     separator: &str,
@@ -55,7 +56,7 @@ fn push_answer(heap: Global, out: &mut String, line: &str) -> Result<(), AllocEr
     let (number, argument) = match read_line(heap, line) {
         Ok(read) => read,
         Err(Fault::NotOfTheForm) => return out.push_str("unreadable"),
-        Err(Fault::NoMemory) => return Err(AllocError),
+        Err(Fault::NoMemory(error)) => return Err(error),
     };
     if first_of(number, argument.as_slice()).is_none() {
         return out.push_str("none");

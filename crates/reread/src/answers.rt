@@ -13,7 +13,7 @@ fn push_answer(heap: Global, out: &mut String, line: &str) -> Result<(), AllocEr
     match bytes_of(heap, line.as_bytes()) {
         Ok(text) => out.push_str(calls(heap, text.as_slice())?.as_str()),
         Err(Fault::NotOfTheForm) => out.push_str("unreadable\n"),
-        Err(Fault::NoMemory) => Err(AllocError),
+        Err(Fault::NoMemory(error)) => Err(error),
     }
 }
 
