@@ -6,10 +6,10 @@ use crate::theirs;
 use std::hint::black_box;
 use std::time::{Duration, Instant};
 
-const ROUNDS: usize = 9;
+const ROUNDS: usize = 60;
 
 /// How long one measurement takes at least.
-const LEAST: Duration = Duration::from_millis(20);
+const LEAST: Duration = Duration::from_millis(5);
 
 pub fn run() {
     println!("| input | bytes | flags | ours, MB/s | original, MB/s | ratio |");

@@ -1,5 +1,5 @@
 -- What is written of a line of the sample. Assumes nothing.
-use Rattle.std.specs.Prelude.{◌≡◌, ◌⊎◌, ◌++◌, codes}
+use Rattle.std.specs.Prelude.{List, [], ◌∷◌, ◌≡◌, ◌⊎◌, ◌++◌, codes}
 use Rattle.flags.specs.Meaning.{Bytes}
 use Rattle.hexadecimal.specs.Digits.{digits_of}
 use Rattle.bridge.specs.Calls.{Report}
@@ -15,3 +15,8 @@ pub record Reread (line before after : Bytes) : Type 0 where
 -- or it is said that it could not be read
 abbrev pub Answered : Bytes → Bytes → Bytes → Type 0
 Answered line before after = Reread line before after ⊎ (after ≡ before ++ codes "unreadable\n")
+
+-- what is written of lines, one after the other
+pub data AllAnswered : List Bytes → Bytes → Type 0 where
+  none_yet : AllAnswered [] []
+  one_more : (lines : List Bytes) (line before after : Bytes) → AllAnswered lines before → Answered line before after → AllAnswered (lines ++ (line ∷ [])) after

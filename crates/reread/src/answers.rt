@@ -1,6 +1,7 @@
 // A line of the sample is a text in hexadecimal digits. Its answer is what a reader of the text tells, a line for each call.
-ghost use Rattle.std.specs.Prelude.{string_bytes, OnOk};
-ghost use Rattle.reread.specs.Answers.{Answered};
+ghost use Rattle.std.specs.Prelude.{string_bytes, IfOk, OnOk};
+ghost use Rattle.std.specs.Str.Lines.{lines};
+ghost use Rattle.reread.specs.Answers.{Answered, AllAnswered};
 
 use bridge::calls;
 use hexadecimal::{Fault, bytes_of};
@@ -18,7 +19,9 @@ fn push_answer(heap: Global, out: &mut String, line: &str) -> Result<(), AllocEr
 }
 
 // The answers to the lines of a sample.
-pub fn answers(heap: Global, sample: &str) -> Result<String, AllocError> {
+pub fn answers(heap: Global, sample: &str) -> Result<String, AllocError>
+    ensures { IfOk result (λ out. AllAnswered (lines sample.now) (string_bytes out)) }
+{
     let mut out = String::new(heap);
     for line in sample.lines() {
         push_answer(heap, &mut out, line)?;
