@@ -7,6 +7,9 @@ use Rattle.text.specs.declared.refusals.Refusal.TheVariants.{TextTooLong}
 use Rattle.text.specs.Arguments.{longest_text, arguments}
 use Rattle.text.specs.Refusals.{number, said}
 use Rattle.text.specs.Shapes.{Form, empty, single, double, long, short, plain, form_of}
+use Rattle.tables.specs.Rustc.{rustc}
+use Rattle.reading.specs.Reading.{State, free, step}
+use Rattle.explain.specs.Told.{told, end_told}
 
 abbrev pub shape_name : Form → List ℕ
 shape_name empty = codes "empty"
@@ -25,15 +28,16 @@ abbrev pub line : ℕ → List ℕ → List ℕ
 line n a =
     decimal n ++ (codes ": " ++ (escaped a ++ (codes " (" ++ (shape_name (form_of a) ++ (codes ", " ++ (encoding_name (utf8 a) ++ codes ")\n"))))))
 
-abbrev pub lines : ℕ → List (List ℕ) → List ℕ
-lines n [] = []
-lines n (a ∷ rest) = line n a ++ lines (suc n) rest
+-- the lines of the arguments from a state on, each with its flags and its note under it
+abbrev pub lines : ℕ → State → List (List ℕ) → List ℕ
+lines n s [] = end_told s
+lines n s (a ∷ rest) = line n a ++ (told rustc s a ++ lines (suc n) (step rustc s a).1 rest)
 
 abbrev pub heading : List ℕ → List ℕ
 heading text = decimal (length text) ++ (codes " bytes, " ++ (decimal (length (arguments text)) ++ codes " arguments\n"))
 
 abbrev pub accepted : List ℕ → List ℕ
-accepted text = heading text ++ lines 1 (arguments text)
+accepted text = heading text ++ lines 1 free (arguments text)
 
 abbrev pub refused : Refusal → List ℕ
 refused r = codes "refused " ++ (decimal (number r) ++ (codes ": " ++ (said r ++ codes "\n")))

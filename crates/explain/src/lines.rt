@@ -4,8 +4,10 @@ ghost use Rattle.utf8.specs.Utf8.{utf8};
 ghost use Rattle.text.specs.Shapes.{form};
 ghost use Rattle.explain.specs.Report.{shape_name, encoding_name, line, heading, accepted, refused, report};
 
+use super::told::{Owed, push_end, push_told};
 use escape::Escaped;
 use std::alloc::{AllocError, Global};
+use tables::Rustc;
 use text::{Refusal, Shape, arguments_of, check_text, count, shape_of};
 use utf8::is_utf8;
 
@@ -57,9 +59,12 @@ fn accepted(heap: Global, text: &[u8]) -> Result<String, AllocError>
     ensures { IfOk result (λ s. string_bytes s ≡ accepted text.now) }
 {
     let mut out = heading(heap, text)?;
+    let mut owed = Owed::Nothing;
     for (i, argument) in arguments_of(text).enumerate() {
         push_line(&mut out, i + 1, argument)?;
+        owed = push_told(&mut out, &Rustc, owed, argument)?;
     }
+    push_end(&mut out, owed)?;
     Ok(out)
 }
 

@@ -2,6 +2,8 @@
 #![tactic(auto)]
 
 mod lines;
+mod reasons;
+mod told;
 
 use lines::explained;
 use std::io;
