@@ -35,7 +35,7 @@ impl From<Option<usize>> for Number {
     }
 }
 
-// How many flags a text gives.
+// How many flags a text gives. Counted by a loop: a reader is no iterator, since text and table are lent to each call.
 #[tactic(auto, using(crate::proofs::Lines::fewer))]
 pub fn count(text: &[u8]) -> Result<usize, Refusal>
     ensures { result ≡ counted text.now }
@@ -48,7 +48,7 @@ pub fn count(text: &[u8]) -> Result<usize, Refusal>
     Ok(flags)
 }
 
-// Adds the line of a call: whether the reader has ended behind it, and the flag that it gave.
+// Adds the line of a call, and goes on from a reader, so no `Display`: whether the reader has ended behind it, and the flag that it gave.
 fn push_call(out: &mut String, ended: bool, flag: Option<Flag<'_>>) -> Result<(), AllocError>
     ensures { OnOk result (string_bytes out.new ≡ string_bytes out.old ++ call_line ended (option_map meaning flag.entry)) }
 {

@@ -1,4 +1,5 @@
 // What is printed under an argument: the flags that it gives, and why it, or the rest of it, gives none.
+// Functions and no `Display`: each also answers what is owed behind what it prints, and the next goes on from there.
 ghost use Rattle.std.specs.Prelude.{◌≡◌, ◌<◌, ◌++◌, length, IfSome, IfOk, OnOk, string_bytes};
 ghost use Rattle.construct.specs.Made.{all_made};
 ghost use Rattle.flags.specs.Meaning.{meaning};
