@@ -1,7 +1,7 @@
 // Digits read back as bytes.
-ghost use Rattle.std.specs.Prelude.{◌≡◌, ◌<◌, ◌/◌, ◌%◌, IfSome, IfOk};
+ghost use Rattle.std.specs.Prelude.{◌≡◌, ◌≢◌, ℕ, ◌<◌, ◌/◌, ◌%◌, IfSome, IfNone, IfOk, IfErr};
 ghost use Rattle.std.specs.Char.{digit_char};
-ghost use Rattle.hexadecimal.specs.Digits.{digits_of};
+ghost use Rattle.hexadecimal.specs.Digits.{digits_of, OfBytes};
 
 use std::alloc::{AllocError, Global};
 
@@ -22,6 +22,7 @@ impl From<AllocError> for Fault {
 fn value_of(digit: u8) -> Option<u8>
     ensures value { IfSome result (λ n. digit ≡ digit_char n) }
     ensures bound { IfSome result (λ n. n < 16) }
+    ensures other { IfNone result ((n : ℕ) → n < 16 → digit ≢ digit_char n) }
 {
     match digit {
         b'0'..=b'9' => Some(digit - b'0'),
@@ -33,14 +34,16 @@ fn value_of(digit: u8) -> Option<u8>
 fn byte_of(high: u8, low: u8) -> Option<u8>
     ensures high { IfSome result (λ b. high ≡ digit_char (b / 16)) }
     ensures low { IfSome result (λ b. low ≡ digit_char (b % 16)) }
+    ensures other { IfNone result ((b : ℕ) → b < 256 → high ≡ digit_char (b / 16) → low ≢ digit_char (b % 16)) }
 {
     Some(value_of(high)? * 16 + value_of(low)?)
 }
 
 // The bytes that have these digits.
-#[tactic(auto, using(crate::proofs::Behind::digits_read))]
+#[tactic(auto, using(crate::proofs::Behind::digits_read, crate::proofs::Behind::no_pair, crate::proofs::Behind::no_single))]
 pub fn bytes_of(heap: Global, digits: &[u8]) -> Result<Vec<u8>, Fault>
-    ensures { IfOk result (λ bytes. digits.now ≡ digits_of bytes.items) }
+    ensures bytes { IfOk result (λ bytes. digits.now ≡ digits_of bytes.items) }
+    ensures none { IfErr result (λ fault. fault ≡ Fault.NotOfTheForm → ¬ (OfBytes digits.now)) }
 {
     let mut bytes = Vec::new(heap);
     let mut rest = digits;
