@@ -1,6 +1,7 @@
 // Digits read back as bytes.
 ghost use Rattle.std.specs.Prelude.{◌≡◌, ◌≢◌, ℕ, ◌<◌, ◌/◌, ◌%◌, IfSome, IfNone, IfOk, IfErr};
 ghost use Rattle.std.specs.Char.{digit_char};
+ghost use Rattle.hexadecimal.specs.declared.bytes.Fault.TheVariants.{NoMemory};
 ghost use Rattle.hexadecimal.specs.Digits.{digits_of, OfBytes};
 
 use std::alloc::{AllocError, Global};
@@ -13,6 +14,8 @@ pub enum Fault {
 }
 
 impl From<AllocError> for Fault {
+    ghost from_gives = { λ error it. it ≡ NoMemory error };
+
     fn from(error: AllocError) -> Fault {
         Fault::NoMemory(error)
     }
