@@ -209,7 +209,7 @@ pub const OPTIONS: [Opt; 33] = [
         &[
             b"src=crate",
             b"a=b=c",
-            b"/home/x=/",
+            b"/data/x=/",
             b"\xff=\xfe",
             b"=",
             b"a\\b=c\"d",

@@ -1,5 +1,5 @@
 // A sink for arguments of one byte each.
-ghost use Rattle.std.specs.Prelude.{◌≡◌, ℕ, ◌<◌, map, true, IsSome, vec_len, vec_capacity};
+ghost use Rattle.std.specs.Prelude.{◌≡◌, ℕ, ◌<◌, ◌≤◌, [], map, true, None, IsSome, IfOk, vec_len, vec_capacity};
 ghost use Rattle.std.specs.Option.{option_map, option_to_list};
 ghost use Rattle.strangers.specs.Letters.{letter, rules_at};
 
@@ -17,7 +17,10 @@ pub struct Letters {
 
 impl Letters {
     // An empty sink with space for so many letters, or some more.
-    pub fn new(heap: Global, space: usize) -> Result<Letters, AllocError> {
+    pub fn new(heap: Global, space: usize) -> Result<Letters, AllocError>
+        ensures empty { IfOk result (λ s. (s.letters.items ≡ []) × (s.pending ≡ None)) }
+        ensures room { IfOk result (λ s. space ≤ vec_capacity s.letters) }
+    {
         let letters = Vec::with_capacity(heap, space)?;
         Ok(Letters {
             letters,
