@@ -55,7 +55,7 @@ module _ (b : ℕ) (bs : List ℕ) (at : ℕ) where
     rest_there : h.1 ≡ drop (place_behind b bs at) bs
     rest_there = sym behind_cut ∙ ap (λ n. drop n bs) place_there
 
-    pieces_more : pieces b (drop at bs) ≡ piece_at b bs at ∷ pieces b (drop (place_behind b bs at) bs)
+    pub pieces_more : pieces b (drop at bs) ≡ piece_at b bs at ∷ pieces b (drop (place_behind b bs at) bs)
     pieces_more = pieces_split b (drop at bs) h cut ∙ (λ i. piece_there i ∷ pieces b (rest_there i))
 
   module _ (cut : cut_first b (drop at bs) ≡ None) where
@@ -71,7 +71,7 @@ module _ (b : ℕ) (bs : List ℕ) (at : ℕ) where
       behind = end (sym place_last);
     }
 
-    pieces_last : pieces b (drop at bs) ≡ piece_at b bs at ∷ []
+    pub pieces_last : pieces b (drop at bs) ≡ piece_at b bs at ∷ []
     pieces_last = pieces_uncut b (drop at bs) cut ∙ ap (λ p. p ∷ []) piece_last
 
   piece_within : at ≤ length bs → at + length (piece_at b bs at) ≤ length bs
