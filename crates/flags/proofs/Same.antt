@@ -70,14 +70,14 @@ module _ (b : Flag) where
   path : (k : LibraryKind) (x : Bor Bytes) → Tells (flag.LibrarySearchPath k x) b
   path k x = search rules
 
-  link : (k : LinkKind) (ms : ModifierList) (x : Bor Bytes) (y : Option (Bor Bytes)) → Tells (flag.Link k ms x y) b
-  link k ms x y = search (same_modifiers, rules)
+  link : (k : LinkKind) (x : Bor Bytes) (y : Option (Bor Bytes)) (ms : ModifierList) → Tells (flag.Link k x y ms) b
+  link k x y ms = search (same_modifiers, rules)
 
 tells : (a b : Flag) → Tells a b
 tells flag.Help b = search (bare b)
 tells (flag.Cfg x y) b = search (perhaps b x y)
 tells (flag.LibrarySearchPath k x) b = path b k x
-tells (flag.Link k ms x y) b = link b k ms x y
+tells (flag.Link k x y ms) b = link b k x y ms
 tells (flag.CrateType w) b = crate_type b w
 tells (flag.CrateName x) b = search (name b x)
 tells (flag.Edition n) b = edition b n

@@ -59,7 +59,7 @@ abbrev pub meaning : Flag → Meaning
 meaning flag.Help = help
 meaning (flag.Cfg name value) = cfg name.now (option_map (λ x. x.now) value)
 meaning (flag.LibrarySearchPath kind path) = library_path kind path.now
-meaning (flag.Link kind list name rename) = link kind (known_modifiers list.text.now) name.now (option_map (λ x. x.now) rename)
+meaning (flag.Link kind name rename list) = link kind (known_modifiers list.text.now) name.now (option_map (λ x. x.now) rename)
 meaning (flag.CrateType t) = crate_type t
 meaning (flag.CrateName name) = crate_name name.now
 meaning (flag.Edition year) = edition year

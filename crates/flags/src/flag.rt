@@ -19,9 +19,9 @@ pub enum Flag<'a> {
     // `-l [KIND[:MODIFIERS]=]NAME[:RENAME]`
     Link {
         kind: LinkKind,
-        modifiers: ModifierList<'a>,
         name: &'a [u8],
         rename: Option<&'a [u8]>,
+        modifiers: ModifierList<'a>,
     },
     // `--crate-type TYPE`
     CrateType(CrateType),

@@ -3,7 +3,7 @@ use Rattle.std.proofs.Common.{◌≡◌, ℕ, zero, suc, ◌+◌, ◌<◌, ◌�
 use Rattle.std.specs.Option.{option_map}
 use Rattle.std.proofs.ByRecursion.{All-append}
 use Rattle.std.proofs.lemmas.List.{append_assoc, length-append, nil_from_length}
-use Rattle.std.proofs.lemmas.Bool.{le-leb, lt-leb, or_parts, leb-true}
+use Rattle.std.proofs.lemmas.Bool.{cond-true, cond-false, le-leb, lt-leb, or_parts, leb-true}
 use Rattle.std.proofs.lemmas.Bool.Decides.{nat_tests}
 use Rattle.text.specs.Arguments.{separator, arguments, join, Whole}
 use Rattle.text.specs.Cuts.{holds, begins, first_place}
@@ -50,21 +50,21 @@ text_no_room size text h e = ap (λ b. cond b None (Some full)) (lt-leb (length 
 abbrev bar_by : ℕ → Option ℕ → ℕ → Option Bar
 bar_by left o n = elim o [ Some at ↦ cond (leb at left) (Some uncarried) (Some full) | None ↦ cond (leb n left) None (Some full) ]
 
+-- a byte more, with space for it and with none
+bar_more : (left : ℕ) (o : Option ℕ) (n : ℕ) → bar_by left o n ≡ bar_by (suc left) (option_map suc o) (suc n)
+bar_more left None n = ap (λ t. cond t None (Some full)) (grind (arith, nat_tests))
+bar_more left (Some i) n = ap (λ t. cond t (Some uncarried) (Some full)) (grind (arith, nat_tests))
+
+bar_full : (o : Option ℕ) (n : ℕ) → Some full ≡ bar_by 0 (option_map suc o) (suc n)
+bar_full None n = sym (ap (λ t. cond t None (Some full)) (lt-leb (suc n) 0 (omega arith)))
+bar_full (Some i) n = sym (ap (λ t. cond t (Some uncarried) (Some full)) (lt-leb (suc i) 0 (omega arith)))
+
 module _ (size : ℕ) (list : List (List ℕ)) where
   abbrev long : List ℕ → ℕ
   long a = length (join (list ++ a ∷ []))
 
   grown : (a : List ℕ) (b : ℕ) → long (a ++ b ∷ []) ≡ long a + 1
   grown a b = ap length (join_grown list a (b ∷ [])) ∙ length-append (join (list ++ a ∷ [])) (b ∷ [])
-
-  -- a byte more, with space for it and with none
-  bar_more : (left : ℕ) (o : Option ℕ) (n : ℕ) → bar_by left o n ≡ bar_by (suc left) (option_map suc o) (suc n)
-  bar_more left None n = ap (λ t. cond t None (Some full)) (grind (arith, nat_tests))
-  bar_more left (Some i) n = ap (λ t. cond t (Some uncarried) (Some full)) (grind (arith, nat_tests))
-
-  bar_full : (o : Option ℕ) (n : ℕ) → Some full ≡ bar_by 0 (option_map suc o) (suc n)
-  bar_full None n = sym (ap (λ t. cond t None (Some full)) (lt-leb (suc n) 0 (omega arith)))
-  bar_full (Some i) n = sym (ap (λ t. cond t (Some uncarried) (Some full)) (lt-leb (suc i) 0 (omega arith)))
 
   pub first_bar_is : (left : ℕ) (a bs : List ℕ) → long a + left ≡ size → first_bar (rules_at size) list a bs ≡ bytes_bar left bs
   first_bar_is left a [] e = sym (ap (λ t. cond t None (Some full)) (le-leb 0 left (omega arith)))
@@ -74,6 +74,26 @@ module _ (size : ℕ) (list : List (List ℕ)) where
       by true left e rest = sym (ap (λ t. cond t (Some uncarried) (Some full)) (le-leb 0 left (omega arith)))
       by false zero e rest = ap (λ t. or_else (cond t None (Some full)) (first_bar (rules_at size) list (a ++ b ∷ []) bs)) (lt-leb (long (a ++ b ∷ [])) size (omega (arith, grown a b))) ∙ bar_full (first_place separator bs) (length bs)
       by false (suc left) e rest = ap (λ t. or_else (cond t None (Some full)) (first_bar (rules_at size) list (a ++ b ∷ []) bs)) (le-leb (long (a ++ b ∷ [])) size (omega (arith, grown a b))) ∙ rest left (omega (arith, grown a b)) ∙ bar_more left (first_place separator bs) (length bs)
+
+-- `bytes_bar` by the bytes up to the one right behind the space
+bar_near : (left : ℕ) (bs : List ℕ) → bytes_bar left bs ≡ cond (holds separator (take (suc left) bs)) (Some uncarried) (cond (leb (length bs) left) None (Some full))
+bar_near left [] = refl
+bar_near left (b ∷ bs) = by (eqb b separator) left (λ less. bar_near less bs)
+  where
+    by : (t : Bool) (left : ℕ) → ((less : ℕ) → bytes_bar less bs ≡ cond (holds separator (take (suc less) bs)) (Some uncarried) (cond (leb (length bs) less) None (Some full))) → bar_by left (cond t (Some 0) (option_map suc (first_place separator bs))) (length (b ∷ bs)) ≡ cond (t || holds separator (take left bs)) (Some uncarried) (cond (leb (length (b ∷ bs)) left) None (Some full))
+    by true left rest = ap (λ t. cond t (Some uncarried) (Some full)) (le-leb 0 left (omega arith))
+    by false zero rest = sym (bar_full (first_place separator bs) (length bs)) ∙ sym (ap (λ t. cond t None (Some full)) (lt-leb (suc (length bs)) 0 (omega arith)))
+    by false (suc left) rest = sym (bar_more left (first_place separator bs) (length bs)) ∙ rest left ∙ ap (λ t. cond (holds separator (take (suc left) bs)) (Some uncarried) (cond t None (Some full))) (grind (arith, nat_tests))
+
+-- the three answers by these bytes
+pub near_holds : (left : ℕ) (bs : List ℕ) → holds separator (take (suc left) bs) ≡ true → Some (refusal uncarried) ≡ option_map refusal (bytes_bar left bs)
+near_holds left bs h = sym (ap (option_map refusal) (bar_near left bs ∙ cond-true _ _ _ h))
+
+pub near_passes : (left : ℕ) (bs : List ℕ) → holds separator (take (suc left) bs) ≡ false → left < length bs → Some (refusal full) ≡ option_map refusal (bytes_bar left bs)
+near_passes left bs h over = sym (ap (option_map refusal) (bar_near left bs ∙ cond-false _ _ _ h ∙ cond-false _ _ _ (lt-leb (length bs) left over)))
+
+pub near_fits : (left : ℕ) (bs : List ℕ) → holds separator (take (suc left) bs) ≡ false → length bs ≤ left → None ≡ option_map refusal (bytes_bar left bs)
+near_fits left bs h fits = sym (ap (option_map refusal) (bar_near left bs ∙ cond-false _ _ _ h ∙ cond-true _ _ _ (le-leb (length bs) left fits)))
 
 -- what a search for a byte says of all the bytes
 abbrev Found : ℕ → Bool → Option ℕ → Type 0

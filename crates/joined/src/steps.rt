@@ -1,5 +1,5 @@
 // The steps of a joined sink, each from one good state to another, and what has to be checked before each.
-ghost use Rattle.std.specs.Prelude.{◌≡◌, ◌+◌, ◌<◌, ◌≤◌, cond, length, take, Some, None, ◌==◌, slice_set, IfOk, OnOk};
+ghost use Rattle.std.specs.Prelude.{◌≡◌, suc, ◌+◌, ◌<◌, ◌≤◌, cond, length, take, Some, None, ◌==◌, slice_set, IfOk, OnOk};
 ghost use Rattle.text.specs.Arguments.{separator, arguments};
 ghost use Rattle.std.specs.Option.{option_map};
 ghost use Rattle.sinks.specs.Sinks.{verdict, refusal, begin_told, write_told, finish_told, withdraw_told, cut_told, begun, written};
@@ -8,7 +8,7 @@ ghost use Rattle.joined.specs.Parts.{bytes_bar, Text, Front};
 ghost use Rattle.joined.specs.State.{held, size, lasting, CanBegin, CanWrite, CanFinish};
 
 use super::state::Joined;
-use text::{Refusal, SEPARATOR, find, rfind};
+use text::{Refusal, SEPARATOR, contains, rfind};
 
 // Writes a separator behind a text, unless that is empty. Answers where the next argument starts.
 fn separate(bytes: &mut [u8], end: usize) -> usize
@@ -23,15 +23,26 @@ fn separate(bytes: &mut [u8], end: usize) -> usize
     end + 1
 }
 
-// Declines bytes of which one does not go in, with space for so many. A separator right behind the space is told as one.
+// The bytes that a space has, and the one right behind it.
+fn near(bytes: &[u8], left: usize) -> &[u8]
+    ensures { result.now ≡ take (suc left) bytes.now }
+{
+    bytes.get(..=left).unwrap_or(bytes)
+}
+
+// Declines bytes of which one does not go in, with space for so many. A separator right behind the space is told as one,
+// and what is behind that is not looked at: it may be long.
+#[tactic(auto, using(crate::proofs::Texts::near_holds, crate::proofs::Texts::near_passes, crate::proofs::Texts::near_fits))]
 fn check_bytes(bytes: &[u8], left: usize) -> Result<(), Refusal>
     ensures { verdict result ≡ option_map refusal (bytes_bar left bytes.now) }
 {
-    match find(bytes, SEPARATOR) {
-        Some(at) if at <= left => Err(Refusal::CannotCarry),
-        None if bytes.len() <= left => Ok(()),
-        _ => Err(Refusal::NoSpace),
+    if contains(near(bytes, left), SEPARATOR) {
+        return Err(Refusal::CannotCarry);
     }
+    if bytes.len() > left {
+        return Err(Refusal::NoSpace);
+    }
+    Ok(())
 }
 
 // The clause `stays` compares a sink before and after a call, so no type can carry it.

@@ -1,5 +1,6 @@
 // Rows over a text of names: what they say. The definitions take the two lists, so that they read without the code.
 ghost use Rattle.std.specs.Prelude.{◌≡◌};
+ghost use Rattle.std.specs.Option.{option_map};
 ghost use Rattle.flags.specs.Codes.{code_of};
 ghost use Rattle.rows.specs.Rows.{name_of, row_at, code_at, short_code, long_code};
 
@@ -34,18 +35,15 @@ impl<'a> Names<'a> {
     pub(crate) fn name_of(&self, row: Row) -> &'a [u8]
         ensures { result.now ≡ name_of self.now.text.now row }
     {
-        let behind = self.text.get(row.offset..).unwrap_or(&[]);
-        behind.get(..row.length).unwrap_or(behind)
+        let behind = &self.text[row.offset.min(self.text.len())..];
+        &behind[..row.length.min(behind.len())]
     }
 
     // The first row with a name.
-    pub(crate) fn row_at(&self, name: &[u8]) -> Option<Row>
-        ensures { result ≡ row_at self.now.text.now self.now.rows.now name.now }
+    pub(crate) fn row_at(&self, name: &[u8]) -> Option<&'a Row>
+        ensures { option_map (λ row. row.now) result ≡ row_at self.now.text.now self.now.rows.now name.now }
     {
-        self.rows
-            .iter()
-            .copied()
-            .find(|row| self.name_of(*row) == name)
+        self.rows.iter().find(|row| self.name_of(**row) == name)
     }
 
     fn code_at(&self, name: &[u8]) -> Option<Code>

@@ -29,3 +29,11 @@ written_more h xs ys = ap (λ o. record { list = h.list; pending = o }) (more h.
     more : (o : Option (List ℕ)) → option_map (λ a. a ++ ys) (option_map (λ a. a ++ xs) o) ≡ option_map (λ a. a ++ (xs ++ ys)) o
     more None = refl
     more (Some a) = ap Some (append_assoc a xs ys)
+
+-- no bytes written
+pub written_none : (h : Held) → h ≡ written None [] h
+written_none h = ap (λ o. record { list = h.list; pending = o }) (none h.pending)
+  where
+    none : (o : Option (List ℕ)) → o ≡ option_map (λ a. a ++ []) o
+    none None = refl
+    none (Some a) = ap Some (sym (append-nil a))

@@ -35,6 +35,9 @@ const LONG_OPTIONS: [(&[u8], Kind); 27] = [
     (b"remap-path-prefix", Kind::RemapPathPrefix),
 ];
 
+// The length of the longest name.
+const LONGEST: usize = b"remap-path-prefix".len();
+
 // The code of the first option with this name.
 fn code_in(options: &[(&[u8], Kind)], name: &[u8]) -> Option<Code>
     ensures { result ≡ code_in (map (λ o. row o.0.now (Code.Of o.1)) options.now) name.now }
@@ -45,10 +48,14 @@ fn code_in(options: &[(&[u8], Kind)], name: &[u8]) -> Option<Code>
         .map(|(_, kind)| Code::Of(*kind))
 }
 
-// The code of the long option with this name.
+// The code of the long option with this name. One longer than the longest is declined before the search.
+#[tactic(auto, using(crate::proofs::Longest::no_longer))]
 pub(crate) fn long_code(name: &[u8]) -> Option<Code>
     ensures answer { result ≡ code_in long_options name.now }
     ensures names { LongNames }
 {
+    if name.len() > LONGEST {
+        return None;
+    }
     code_in(&LONG_OPTIONS, name)
 }

@@ -5,6 +5,11 @@ use Rattle.std.proofs.lemmas.Bool.{ne_eqb, eq-eqb, eqb-true, or_from}
 use Rattle.std.proofs.lemmas.Option.{IfSome_then}
 use Rattle.text.specs.Cuts.{holds, first_place, last_place, Halves, sides, with_front, cut_first, cut_last}
 
+-- one function behind the other on what there may be
+pub mapped-mapped : {X Y Z : Type 0} (f : X → Y) (g : Y → Z) (o : Option X) → option_map g (option_map f o) ≡ option_map (λ x. g (f x)) o
+mapped-mapped f g None = refl
+mapped-mapped f g (Some x) = refl
+
 module _ (b : ℕ) where
   abbrev pub Absent : List ℕ → Type 0
   Absent bs = (k : ℕ) → k < length bs → get_or bs k 0 ≢ b

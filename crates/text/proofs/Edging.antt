@@ -1,11 +1,18 @@
 -- A cut beside an ASCII byte is at edges. Assumes nothing.
-use Rattle.std.proofs.Common.{◌≡◌, ℕ, suc, ◌+◌, ◌-◌, ◌<◌, List, [], ◌∷◌, ◌++◌, length, get_or, take, drop, Some, None, Option, IfSome, sym, ap, ◌∙◌, subst, arith, length-drop}
+use Rattle.std.proofs.Common.{◌≡◌, ℕ, zero, suc, true, eqb, ◌+◌, ◌-◌, ◌<◌, List, [], ◌∷◌, ◌++◌, length, get_or, take, drop, Some, None, Option, IfSome, sym, ap, ◌∙◌, subst, arith, length-drop}
 use Rattle.std.specs.Option.{option_map}
+use Rattle.std.proofs.lemmas.Bool.{eq-eqb, or_left, or_right}
 use Rattle.std.proofs.lemmas.List.{drop_more, take_more, length-take-le}
 use Rattle.utf8.proofs.Laws.{ascii_character}
 use Rattle.text.specs.Edges.{Edge, AtEdges, before, after}
-use Rattle.text.specs.Cuts.{sides, cut_first, cut_last}
+use Rattle.text.specs.Cuts.{holds, sides, cut_first, cut_last}
 use Rattle.text.proofs.Cutting.{Holds, cut_first_sides, cut_last_sides, first_held, last_held}
+
+-- what stands at a place is held
+pub holds_here : (b : ℕ) (bs : List ℕ) (i : ℕ) → i < length bs → get_or bs i 0 ≡ b → true ≡ holds b bs
+holds_here b [] i in' e = absurd (omega arith)
+holds_here b (x ∷ xs) zero in' e = sym (or_left _ _ (eq-eqb x b e))
+holds_here b (x ∷ xs) (suc i) in' e = sym (or_right (eqb x b) _ (sym (holds_here b xs i (omega arith) e)))
 
 module _ (bs : List ℕ) (i b : ℕ) (in' : i < length bs) (here : get_or bs i 0 ≡ b) (ascii : b < 128) where
   pub edge_before : Edge bs i

@@ -1,7 +1,8 @@
 -- Cutting and joining undo each other. Assumes nothing.
-use Rattle.std.proofs.Common.{◌≡◌, ℕ, suc, ◌+◌, ◌<◌, ◌≤◌, Bool, true, false, cond, eqb, not, List, [], ◌∷◌, ◌++◌, map, length, get_or, Decides, sym, refl, ap, ◌∙◌, subst, arith, length-append, Bor}
+use Rattle.std.proofs.Common.{◌≡◌, ℕ, suc, ◌+◌, ◌<◌, ◌≤◌, Bool, true, false, cond, eqb, not, List, [], ◌∷◌, ◌++◌, map, length, get_or, Decides, ◌==◌, count_by, sym, refl, ap, ◌∙◌, subst, arith, length-append, Bor}
 use Rattle.std.specs.List.{AllByRecursion, list_all}
 use Rattle.std.proofs.lemmas.List.{get_or-map, length-map}
+use Rattle.std.proofs.lemmas.List.Recursion.{is_sum_by}
 use Rattle.std.proofs.lemmas.Bool.{cond-true, cond-false, eqb-true, eq-eqb, or_parts, and_parts, not-true}
 use Rattle.std.proofs.lemmas.Bool.Decides.{Decides-at}
 use Rattle.text.specs.Cuts.{holds, occurrences}
@@ -98,6 +99,10 @@ cuts_back (a ∷ c ∷ cs) all more =
 pub cuts_back_whole : (list : List (List ℕ)) → CutsBack list → AllByRecursion (Whole separator) list
 cuts_back_whole list e = subst (AllByRecursion (Whole separator)) e (arguments_whole (join list))
 
+-- a list that cutting gives back is not one empty argument
+pub cuts_back_more : (list : List (List ℕ)) → CutsBack list → LoneEmpty list → ⊥
+cuts_back_more list e lone = let z : ◌≡◌ {A = ℕ} 0 1 = ap (λ l. length (arguments (join l))) (sym lone) ∙ ap length e ∙ ap length lone in omega arith
+
 module _ (xs : List (Bor (List ℕ))) where
   pub lone_length : LoneEmpty (map (λ x. x.now) xs) → length xs ≡ 1
   lone_length lone = sym (length-map xs (λ x. x.now)) ∙ ap length lone
@@ -117,3 +122,11 @@ module _ (xs : List (Bor (List ℕ))) where
   joins_told r is more =
       let told = Decides-at r _ is whole_told in
       ((λ e. (told.0 e, more), λ carried. told.1 carried.0), (λ e. cuts_back _ (told.0 e) more, λ back. told.1 (cuts_back_whole _ back)))
+
+-- the separators of a text, counted by a test of each byte
+module _ (text : List ℕ) (n : ℕ) (counted : n ≡ count_by (λ x. x == separator) text) where
+  pub separators_counted : n ≡ occurrences separator text
+  separators_counted = counted ∙ sym (is_sum_by (occurrences separator) (λ x. cond (x == separator) 1 0) refl (λ _ _. refl) text)
+
+  pub arguments_counted : 0 < length text → n + 1 ≡ length (arguments text)
+  arguments_counted some = ap (λ m. m + 1) separators_counted ∙ sym (length-arguments text some)

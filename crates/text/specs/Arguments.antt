@@ -53,6 +53,19 @@ pub record CutAtEdges (b : ℕ) (bs : List ℕ) (at : ℕ) : Type 0 where
   pub before : at ≤ length bs → Edge bs (at + length (piece_at b bs at))
   pub behind : Edge bs (place_behind b bs at)
 
+-- an argument is the piece at a place of the text, and begins and ends at edges, as does the separator behind it
+pub record ArgumentAtEdges (text : List ℕ) (at : ℕ) (argument : List ℕ) : Type 0 where
+  pub here : argument ≡ piece_at separator text at
+  pub within : at + length argument ≤ length text
+  pub front : Edge text at
+  pub back : Edge text (at + length argument)
+  pub cuts : CutAtEdges separator text at
+
+-- so is each argument of a list: the first at a place, and each other behind the one before it and its separator
+abbrev pub ArgumentsAtEdges : List ℕ → ℕ → List (List ℕ) → Type 0
+ArgumentsAtEdges text at [] = Unit {0}
+ArgumentsAtEdges text at (p ∷ ps) = ArgumentAtEdges text at p × ArgumentsAtEdges text (place_behind separator text at) ps
+
 -- a part that a cut at b leaves in one piece
 abbrev pub Whole : ℕ → List ℕ → Type 0
 Whole b p = holds b p ≡ false

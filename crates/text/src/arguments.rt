@@ -1,7 +1,7 @@
 // A text as a list of arguments with 0x1f between them.
 ghost use Rattle.std.specs.Prelude.{◌≡◌, ◌+◌, ◌<◌, ◌≤◌, true, false, map, length, if◌then◌else◌, Ok, Err, Decides, nat_le};
 ghost use Rattle.std.specs.Iterator.{YieldsFirstRef, item_count};
-ghost use Rattle.text.specs.Arguments.{separator, longest_text, arguments, piece_at, place_behind, CutAtEdges, left, Carried, JoinsBack, CutsBack};
+ghost use Rattle.text.specs.Arguments.{separator, longest_text, arguments, piece_at, place_behind, CutAtEdges, ArgumentsAtEdges, left, Carried, JoinsBack, CutsBack};
 ghost use Rattle.text.specs.Cuts.{occurrences};
 
 use super::refusals::Refusal;
@@ -23,6 +23,7 @@ pub fn check_text(text: &[u8]) -> Result<(), Refusal>
 }
 
 // How many arguments the text has.
+#[tactic(auto, using(crate::proofs::Joining::separators_counted, crate::proofs::Joining::arguments_counted, crate::proofs::Joining::joins_back))]
 pub fn count(text: &[u8]) -> usize
     ensures answer { result ≡ length (arguments text.now) }
     ensures one_more_than_separators { 0 < length text.now → result ≡ occurrences separator text.now + 1 }
@@ -70,6 +71,7 @@ impl<'a> Iterator for Arguments<'a> {
 pub fn arguments_of(text: &[u8]) -> Arguments<'_>
     ensures items { left result ≡ arguments text.now }
     ensures few { length (left result) ≤ length text.now + 1 }
+    ensures edges { ArgumentsAtEdges text.now 0 (left result) }
 {
     Arguments {
         rest: (!text.is_empty()).then_some(text),

@@ -1,6 +1,6 @@
 -- Laws of reading a word, over any set. Assumes nothing.
-use Rattle.std.proofs.Common.{◌≡◌, ℕ, ◌+◌, ◌<◌, ◌≤◌, Bool, true, false, List, [], ◌∷◌, length, drop, Option, Some, None, sym, refl, ap, ◌∙◌, ⊎_elim, arith}
-use Rattle.std.specs.List.{slice_get}
+use Rattle.std.proofs.Common.{◌≡◌, ℕ, ◌+◌, ◌<◌, ◌≤◌, Bool, true, false, List, [], ◌∷◌, length, drop, Option, Some, None, sym, refl, ap, subst, ◌∙◌, ⊎_elim, arith}
+use Rattle.std.specs.List.{AllByRecursion, slice_get}
 use Rattle.std.specs.Bool.{then_some}
 use Rattle.std.specs.Option.{MatchOption}
 use Rattle.std.specs.Str.{bytes_eq}
@@ -32,6 +32,14 @@ module _ {W : Type 0} (spelled : W → List ℕ) where
   spelled_by (v ∷ ws) bs w e = ⊎_elim
       (λ t. let f : Some v ≡ Some w = sym (cond-true _ _ _ t) ∙ e in let same : v ≡ w = cc in sym ((bytes_eq-Decides (spelled v) bs).0 t) ∙ ap spelled same)
       (λ t. spelled_by ws bs w (sym (cond-false _ _ _ t) ∙ e))
+      (cases_Bool (bytes_eq (spelled v) bs))
+
+  -- what is read is one of the words, and spelled so
+  pub read_one : (P : W → Type 0) (ws : List W) → AllByRecursion P ws → (bs : List ℕ) (w : W) → read ws spelled bs ≡ Some w → P w × (bs ≡ spelled w)
+  read_one P [] ps bs w e = absurd cc
+  read_one P (v ∷ ws) ps bs w e = ⊎_elim
+      (λ t. let f : Some v ≡ Some w = sym (cond-true _ _ _ t) ∙ e in let same : v ≡ w = cc in (subst P same ps.0, spelled_by (v ∷ ws) bs w e))
+      (λ t. read_one P ws ps.1 bs w (sym (cond-false _ _ _ t) ∙ e))
       (cases_Bool (bytes_eq (spelled v) bs))
 
   -- bytes read as a word exactly when they are its spelling
