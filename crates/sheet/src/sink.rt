@@ -104,6 +104,7 @@ impl<'a> Sink for Sheet<'a> {
         Ok(())
     }
 
+    #[tactic(auto, using(crate::proofs::States::number_is))]
     fn count(&self) -> usize {
         self.count
     }
